@@ -1,0 +1,189 @@
+//! Measures reading and writing: nanoseconds per call of the library and of the yardstick, and
+//! their ratio, on the same inputs in one run.
+
+use compare::chains::valid;
+use compare::library::{ardenquill_read, ardenquill_write};
+use compare::random::Random;
+use std::hint::black_box;
+use std::slice;
+use std::time::Instant;
+use yardstick::{packed_length, Chain, ChainAnswer, LengthAnswer, MAX_QUEUES};
+
+/// The different inputs of one line, called one after the other in a ring.
+const INPUTS: usize = 64;
+
+/// How often a round goes through the ring.
+const TURNS: usize = 32;
+
+/// The rounds of each side, of which the best counts.
+const ROUNDS: usize = 300;
+
+/// The call that reads a file.
+type Read = unsafe extern "C" fn(*const u8, usize) -> ChainAnswer;
+
+/// The call that writes a file.
+type Write = unsafe extern "C" fn(Chain, *mut u8, usize) -> LengthAnswer;
+
+/// The yardstick's reader behind the same boundary as the library's. The bytes must be readable.
+#[inline(never)]
+unsafe extern "C" fn yardstick_read(file: *const u8, file_length: usize) -> ChainAnswer {
+    yardstick::read(slice::from_raw_parts(file, file_length))
+}
+
+/// The yardstick's writer behind the same boundary as the library's. The bytes must be writable.
+#[inline(never)]
+unsafe extern "C" fn yardstick_write(
+    chain: Chain,
+    out: *mut u8,
+    out_length: usize,
+) -> LengthAnswer {
+    yardstick::write(&chain, slice::from_raw_parts_mut(out, out_length))
+}
+
+/// Random valid chains of n queues.
+fn chains(random: &mut Random, n: usize) -> Vec<Chain> {
+    (0..INPUTS).map(|_| valid(random, n)).collect()
+}
+
+/// The chains with a consume above its threshold in the last row, and nowhere else.
+fn refused_last(mut chains: Vec<Chain>) -> Vec<Chain> {
+    for chain in &mut chains {
+        let last = &mut chain.queues[chain.n as usize - 1];
+        last.threshold = last.threshold.min(65_534);
+        last.consume = last.threshold + 1;
+    }
+    chains
+}
+
+/// The packed files of chains, whether or not a chain is refused.
+fn files(chains: &[Chain]) -> Vec<Vec<u8>> {
+    chains.iter().map(packed).collect()
+}
+
+/// The packed file of a chain.
+fn packed(chain: &Chain) -> Vec<u8> {
+    let n = chain.n;
+    let header = [n, chain.period, 20, 20 + 20 * n, 20 + 24 * n];
+    let queues = chain.queues[..n as usize].iter();
+    let rows = queues.flat_map(|q| [q.produce, q.threshold, q.consume, q.capacity, q.reserved]);
+    let nodes = chain.work[..n as usize].iter().copied();
+    let words = header.into_iter().chain(rows).chain(nodes);
+    words.flat_map(u32::to_le_bytes).collect()
+}
+
+/// The files with a total word that is one too large.
+fn refused_first(mut files: Vec<Vec<u8>>) -> Vec<Vec<u8>> {
+    for file in &mut files {
+        let total = file.len() as u32 + 1;
+        file[16..20].copy_from_slice(&total.to_le_bytes());
+    }
+    files
+}
+
+/// Prints the line of reading some files, each of which must be answered with a number.
+fn read_line(name: &str, files: &[Vec<u8>], number: u32) {
+    for file in files {
+        let answer = compare::library::read(file);
+        assert_eq!(
+            answer,
+            yardstick::read(file),
+            "library and yardstick differ"
+        );
+        assert_eq!(
+            answer.number, number,
+            "not the answer that is to be measured"
+        );
+    }
+    let calls = [ardenquill_read as Read, yardstick_read];
+    line("read", name, |side| {
+        for file in files {
+            let file = black_box(file.as_slice());
+            // SAFETY: pointer and length are those of a slice, which the call only reads.
+            let answer = unsafe { calls[side](file.as_ptr(), file.len()) };
+            black_box(&answer);
+        }
+    });
+}
+
+/// Prints the line of writing some chains to room that differs from what is needed by `lacking`
+/// bytes, each of which must be answered with a number.
+fn write_line(name: &str, chains: &[Chain], lacking: usize, number: u32) {
+    let mut out = vec![0; packed_length(chains[0].n as usize) - lacking];
+    for chain in chains {
+        let answer = compare::library::write(chain, &mut out);
+        assert_eq!(
+            answer,
+            yardstick::write(chain, &mut out),
+            "library and yardstick differ"
+        );
+        assert_eq!(
+            answer.number, number,
+            "not the answer that is to be measured"
+        );
+    }
+    let calls = [ardenquill_write as Write, yardstick_write];
+    line("write", name, |side| {
+        for chain in chains {
+            let out = black_box(out.as_mut_slice());
+            // SAFETY: pointer and length are those of a slice that is lent for the call.
+            let answer = unsafe { calls[side](*black_box(chain), out.as_mut_ptr(), out.len()) };
+            black_box(&answer);
+        }
+    });
+}
+
+/// Prints one line, given what goes once through the ring on a side: 0 library, 1 yardstick. The
+/// sides take turns, and so does who begins.
+fn line(call: &str, name: &str, mut ring: impl FnMut(usize)) {
+    let mut best = [f64::INFINITY; 2];
+    for round in 0..2 * ROUNDS {
+        let side = (round + round / 2) % 2;
+        let start = Instant::now();
+        for _ in 0..TURNS {
+            ring(side);
+        }
+        let spent = start.elapsed().as_nanos() as f64 / (TURNS * INPUTS) as f64;
+        best[side] = best[side].min(spent);
+    }
+    let [library, yardstick] = best;
+    let ratio = library / yardstick;
+    println!("{call:<6}{name:<28}{library:>9.1}{yardstick:>11.1}{ratio:>8.2}");
+}
+
+/// Prints what is measured, and the heads of the columns.
+fn heading() {
+    println!(
+        "Nanoseconds per call of the library and of the yardstick, the same rules in plain Rust."
+    );
+    println!(
+        "Best of {ROUNDS} rounds, the two taking turns on the same {INPUTS} different inputs."
+    );
+    println!(
+        "Both are release builds, called through a C function pointer with the same signature."
+    );
+    println!(
+        "No buffer is cleared in the timed part, on either side; each call makes its whole answer."
+    );
+    println!(
+        "{:<6}{:<28}{:>9}{:>11}{:>8}",
+        "call", "input", "library", "yardstick", "ratio"
+    );
+}
+
+fn main() {
+    let mut random = Random::new(1);
+    let ring = [1, 4, MAX_QUEUES].map(|n| chains(&mut random, n));
+    let [.., largest] = &ring;
+    let bad = refused_last(largest.clone());
+    heading();
+    for chains in &ring {
+        read_line(&format!("n = {}", chains[0].n), &files(chains), 0);
+    }
+    read_line("n = 16, refused 1", &refused_first(files(largest)), 1);
+    read_line("n = 16, refused 5, last row", &files(&bad), 5);
+    for chains in &ring {
+        write_line(&format!("n = {}", chains[0].n), chains, 0, 0);
+    }
+    write_line("n = 16, refused 10", largest, 1, 10);
+    write_line("n = 16, refused 5, last row", &bad, 0, 5);
+}

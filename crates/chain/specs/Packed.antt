@@ -1,0 +1,113 @@
+-- The packed file and the writer (01, Chain file: "the writer writes only that").
+--   packedLength n       20+24n
+--   header n y           the header's words
+--   words c              all words: header, queue table, node table
+--   packed c             their bytes
+--   roomCheck need room  10: lent output shorter than what would be written
+--   writeRefusal c room  what the writer refuses c with, the lent output being `room` bytes long
+--   Output r t o p a     what a call that writes a text t into lent bytes o answers and leaves there, its refusal being r
+--   output-..            its cases, as code has them
+--   room-exact           10 is said exactly under its condition
+use mathlib.Core.Path.{_≡_, refl, sym, ap, _∙_}
+use mathlib.Core.Bool.{cond}
+use mathlib.Core.Logic.{_↔_, Iff·trans, Iff·and, Iff·rfl}
+use mathlib.Core.List.{List, [], _∷_, _++_}
+use Prim.Native.Nat.{ℕ, _+_, _*_, _≤_, _<_}
+use native.Mathlib.Omega.{arith}
+use lib.Dec.{ltb, eqb}
+use borrow.Author.Tests.{eq-eqb, ne-eqb, lt-ltb, le-ltb}
+use lib.ListN.{length, drop, length-append}
+use Rattle.words.specs.Put.{Puts, puts-none, put-front}
+use Rattle.words.specs.Flat.{flat, flat-more, flat-length}
+use Rattle.words.specs.Words.{bytesOf, bytes-length, then-words}
+use Rattle.words.specs.Rows.{row}
+use Rattle.chain.specs.Tests.{below-true}
+use Rattle.chain.specs.Refusals.{refused, fine, test, first, orElse, Silent, Only, only-test, test-exact, first-append}
+use Rattle.chain.specs.Record.{rowOf, workOf}
+use Rattle.chain.specs.Checks.{countCheck, rangeCheck, orderCheck, chainRefusal}
+use Rattle.chain.specs.declared.Refusal.{Refusal}
+use Rattle.chain.specs.declared.Chain.{Chain}
+use Rattle.chain.specs.declared.LengthAnswer.{LengthAnswer}
+
+-- "length 20+24n"
+abbrev pub packedLength : ℕ → ℕ
+packedLength n = 20 + 24 * n
+
+-- "the queue table at 20, the node table at 20+20n and length 20+24n"
+abbrev pub header : ℕ → ℕ → List ℕ
+header n y = n ∷ y ∷ 20 ∷ (20 + 20 * n) ∷ packedLength n ∷ []
+
+-- the first i rows, and the first i execution times
+abbrev pub rows : Chain → ℕ → List ℕ
+rows c i = flat (λ j. row (rowOf c j)) i
+
+abbrev pub nodes : Chain → ℕ → List ℕ
+nodes c i = flat (λ j. workOf c j ∷ []) i
+
+-- header, queue table, node table
+abbrev pub words : Chain → List ℕ
+words c = header (c .n) (c .period) ++ (rows c (c .n) ++ nodes c (c .n))
+
+-- the packed file
+unfoldable pub packed : Chain → List ℕ
+unfolding bytesOf flat
+packed c = bytesOf (words c)
+
+-- 10: "lent output shorter than what would be written", place "bytes needed"
+abbrev pub roomCheck : ℕ → ℕ → Refusal
+roomCheck need room = test 10 need (ltb room need)
+
+-- "the writer checks 2, 4, 5, 10"
+unfoldable pub writeRefusal : Chain → ℕ → Refusal
+unfolding first rangeCheck orderCheck
+writeRefusal c room = first (countCheck (c .n) ∷ rangeCheck c 20 (20 + 20 * c .n) ∷ orderCheck c 20 ∷ roomCheck (packedLength (c .n)) room ∷ [])
+
+-- a call that writes: the answer is the refusal, or the text's length; the lent bytes o become p,
+-- the text first and every byte past it as it was, or all of them as they were where it refuses
+pub record Output (r : Refusal) (t o p : List ℕ) (a : LengthAnswer) : Type 0 where
+  pub answer : a ≡ record { number = r .number; place = r .place; length = cond (eqb (r .number) 0) (length t) 0 }
+  pub bytes : p ≡ cond (eqb (r .number) 0) (t ++ drop (length t) o) o
+
+pub output-refused : {r s : Refusal} (t o : List ℕ) → r ≡ s → (Silent r → ⊥) → Output s t o o (record { number = r .number; place = r .place; length = 0 })
+output-refused {r} t o e h = rw (← e) (record { answer = simp (ne-eqb _ _ h); bytes = simp (ne-eqb _ _ h) })
+
+pub output-done : {s : Refusal} {t o p : List ℕ} {k : ℕ} → fine ≡ s → length t ≤ length o → Puts o 0 t p k → Output s t o p (record { number = 0; place = 0; length = k })
+output-done {s} {t} {o} e l w = rw (← e) (record { answer = ap (λ (n : ℕ). record { number = 0; place = 0; length = n }) (omega (arith, w .next)); bytes = w .holds ∙ put-front o t l })
+
+pub room-exact : (L need room : ℕ) → (roomCheck need room ≡ refused 10 L) ↔ ((room < need) × (L ≡ need))
+room-exact L need room = Iff·trans (test-exact 10 L need (λ e. omega arith) _) (Iff·and (below-true room need) Iff·rfl)
+
+pub room-only : (need room : ℕ) → Only 10 (roomCheck need room)
+room-only need room = only-test 10 need (ltb room need)
+
+pub write-parts : (c : Chain) (room : ℕ) → writeRefusal c room ≡ orElse (chainRefusal c) (first (roomCheck (packedLength (c .n)) room ∷ []))
+unfolding writeRefusal chainRefusal
+write-parts c room = first-append (countCheck (c .n) ∷ rangeCheck c 20 (20 + 20 * c .n) ∷ orderCheck c 20 ∷ []) (roomCheck (packedLength (c .n)) room ∷ [])
+
+-- how long the tables and the file are
+pub rows-length : (c : Chain) (i : ℕ) → length (rows c i) ≡ 5 * i
+rows-length c i = flat-length (λ j. row (rowOf c j)) 5 (λ j. refl) i
+
+pub nodes-length : (c : Chain) (i : ℕ) → length (nodes c i) ≡ i
+nodes-length c i = omega (arith, flat-length (λ j. workOf c j ∷ []) 1 (λ j. refl) i)
+
+pub packed-length : (c : Chain) → length (packed c) ≡ packedLength (c .n)
+unfolding packed
+packed-length c =
+    omega (arith, bytes-length (words c), length-append (rows c (c .n)) (nodes c (c .n)), rows-length c (c .n), nodes-length c (c .n))
+
+-- a table written row by row
+pub table-start : {l : List ℕ} {at : ℕ} (f : ℕ → List ℕ) → Puts l at (bytesOf (flat f 0)) l at
+unfolding flat bytesOf
+table-start f = puts-none
+
+pub table-put : {l m o : List ℕ} {at k j : ℕ} (f : ℕ → List ℕ) (i : ℕ) → Puts l at (bytesOf (flat f i)) m k → Puts m k (bytesOf (f i)) o j → Puts l at (bytesOf (flat f (i + 1))) o j
+table-put f i p q = rw (flat-more f i) (then-words (flat f i) (f i) p q)
+
+pub table-end : {l m : List ℕ} {at k : ℕ} (f : ℕ → List ℕ) (i n : ℕ) → i ≤ n → n ≤ i → Puts l at (bytesOf (flat f i)) m k → Puts l at (bytesOf (flat f n)) m k
+table-end f i n g h p = let e : n ≡ i = omega arith in rw e p
+
+-- header, queue table and node table written one after the other are the packed file
+pub file-put : {l m o p : List ℕ} {j k r : ℕ} (c : Chain) → Puts l 0 (bytesOf (header (c .n) (c .period))) m j → Puts m j (bytesOf (rows c (c .n))) o k → Puts o k (bytesOf (nodes c (c .n))) p r → Puts l 0 (packed c) p r
+unfolding packed
+file-put c x y z = then-words (header (c .n) (c .period)) (rows c (c .n) ++ nodes c (c .n)) x (then-words (rows c (c .n)) (nodes c (c .n)) y z)

@@ -1,0 +1,49 @@
+-- The chain record: its rows, its execution times, and the slots that no queue has.
+--   rowOf c i, workOf c i    queue i's row, and the execution time e of the node it feeds, N_(i+1)
+--   emptyChain               the chain of a refused call: all zero
+--   trimmed c                the chain c with its slots past n zero
+--   answered r c             the answer of a call that makes a chain: the refusal r, or c where r is silent
+--   answered-refused, -fine  its two cases, as code has them
+use mathlib.Core.Path.{_≡_, refl, sym, ap, _∙_}
+use mathlib.Core.Bool.{cond}
+use mathlib.Core.List.{List}
+use Prim.Native.Nat.{ℕ}
+use lib.Dec.{eqb}
+use borrow.Author.Tests.{eq-eqb, ne-eqb}
+use lib.ListN.{getD, replicate}
+use Rattle.words.specs.Rows.{none}
+use Rattle.words.specs.Table.{tab, slots}
+use Rattle.words.specs.declared.Queue.{Queue}
+use Rattle.chain.specs.Refusals.{refused, fine, Silent}
+use Rattle.chain.specs.declared.Refusal.{Refusal}
+use Rattle.chain.specs.declared.Chain.{Chain}
+use Rattle.chain.specs.declared.ChainAnswer.{ChainAnswer}
+
+-- queue i's row
+abbrev pub rowOf : Chain → ℕ → Queue
+rowOf c i = getD (c .queues) i none
+
+-- the execution time e of N_(i+1)
+abbrev pub workOf : Chain → ℕ → ℕ
+workOf c i = getD (c .work) i 0
+
+-- "all other results zero"
+abbrev pub emptyChain : Chain
+emptyChain = record { n = 0; period = 0; queues = replicate 16 none; work = replicate 16 0 }
+
+-- the first n slots as they are, the slots past n zero
+unfoldable pub trimmed : Chain → Chain
+unfolding tab
+trimmed c = record { n = c .n; period = c .period; queues = slots (rowOf c) none 16 (c .n); work = slots (workOf c) 0 16 (c .n) }
+
+-- "a refusal gives number and place, all other results zero"
+unfoldable pub answered : Refusal → Chain → ChainAnswer
+answered r c = record { number = r .number; place = r .place; chain = cond (eqb (r .number) 0) c emptyChain }
+
+pub answered-refused : {r s : Refusal} (c : Chain) → r ≡ s → (Silent r → ⊥) → record { number = r .number; place = r .place; chain = emptyChain } ≡ answered s c
+unfolding answered
+answered-refused c e h = rw (← e) (simp (ne-eqb _ _ h))
+
+pub answered-fine : {s : Refusal} (c : Chain) → fine ≡ s → record { number = 0; place = 0; chain = c } ≡ answered s c
+unfolding answered
+answered-fine c e = rw (← e)

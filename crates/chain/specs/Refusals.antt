@@ -1,0 +1,340 @@
+-- Refusals, and the order in which checks speak (01, Numbers a call may refuse with).
+--   refused N L        refusal number N with place L
+--   fine               not refused: number 0, place 0
+--   test N L wrong     the check that says N at L where `wrong` holds, and nothing elsewhere
+--   orElse r s         what r says, or what s says where r is silent
+--   first rs           what the first check of the list that speaks says; fine where all are silent
+--   Silent r, Silents rs
+--                      a check, and each check of a list, says nothing
+--   Only N r           a check speaks with no number but N
+--   Others N rs        no check of the list speaks with number N
+--   First rs N L       the first check of the list that speaks says N at L
+--   or-left, or-right  the two cases of orElse
+--   first-fine         a silent list says fine
+--   first-append       a list, then the next one
+--   first-is           first rs is refused N L exactly when First rs N L
+--   first-exact        a list says N at L exactly when the checks before the one of that number are silent and it says so
+--   scan-..            a loop over the checks g 0, g 1, .. that stops at the first that speaks
+use mathlib.Core.Path.{_≡_, refl, sym, ap, _∙_}
+use mathlib.Core.Bool.{Bool, true, false, cond, true≢false}
+use mathlib.Core.Logic.{_↔_, _≢_, _⊎_, inl, inr, ⊎-elim, Iff·trans, Iff·and, Iff·rfl, by-cases}
+use mathlib.Core.List.{List, [], _∷_, _++_, map, map-append}
+use Prim.Native.Nat.{ℕ, zero, suc, _+_, _*_, _≤_, _<_, zero-le}
+use native.Mathlib.Nat.{not-suc-le-zero, eq-or-lt-of-le}
+use native.Mathlib.Decide.{ℕ-discrete}
+use native.Mathlib.Omega.{arith}
+use native.Mathlib.Numerals.{add-one}
+use lib.Dec.{eqb}
+use borrow.Author.Tests.{eq-eqb, ne-eqb, eqb-true, eqb-false}
+use lib.ListN.{length, getD}
+use Rattle.words.specs.Flat.{flat}
+use Rattle.words.specs.Table.{tab, tab-last, tab-more, length-tab, tab-at}
+use Rattle.chain.specs.declared.Refusal.{Refusal}
+
+-- refusal number N with place L
+abbrev pub refused : ℕ → ℕ → Refusal
+refused N L = record { number = N; place = L }
+
+-- not refused
+abbrev pub fine : Refusal
+fine = refused 0 0
+
+-- the check that says N at L where `wrong` holds, and nothing elsewhere
+abbrev pub test : ℕ → ℕ → Bool → Refusal
+test N L wrong = cond wrong (refused N L) fine
+
+-- what r says, or what s says where r is silent
+unfoldable pub orElse : Refusal → Refusal → Refusal
+orElse r s = cond (eqb (r .number) 0) s r
+
+-- what the first check that speaks says: "checks run in this order, lowest number first"
+unfoldable pub first : List Refusal → Refusal
+unfolding orElse
+first [] = fine
+first (r ∷ rs) = orElse r (first rs)
+
+-- a check says nothing
+abbrev pub Silent : Refusal → Type 0
+Silent r = r .number ≡ 0
+
+-- each check of a list says nothing
+unfoldable pub Silents : List Refusal → Type 0
+Silents [] = Unit
+Silents (r ∷ rs) = Silent r × Silents rs
+
+or-silent : (r s : Refusal) → Silent r → orElse r s ≡ s
+unfolding orElse
+or-silent r s h = simp (eq-eqb _ _ h)
+
+or-speaks : (r s : Refusal) → (Silent r → ⊥) → orElse r s ≡ r
+unfolding orElse
+or-speaks r s h = simp (ne-eqb _ _ h)
+
+-- a check is silent or it is not
+speaks? : {C : Type 0} (r : Refusal) → (Silent r → C) → ((Silent r → ⊥) → C) → C
+speaks? r = by-cases (ℕ-discrete (r .number) 0)
+
+number-of : {r s : Refusal} → r ≡ s → r .number ≡ s .number
+number-of e = ap (λ (x : Refusal). x .number) e
+
+-- the two cases of a check and the next one, as code has them: r was answered for a
+pub or-left : {a r : Refusal} (b : Refusal) → r ≡ a → (Silent r → ⊥) → r ≡ orElse a b
+or-left {a} b e h = e ∙ sym (or-speaks a b (λ z. h (number-of e ∙ z)))
+
+pub or-right : {a b r s : Refusal} → r ≡ a → Silent r → s ≡ b → s ≡ orElse a b
+or-right {a} {b} e h g = g ∙ sym (or-silent a b (sym (number-of e) ∙ h))
+
+-- a silent list says fine
+pub first-fine : (rs : List Refusal) → Silent (first rs) → first rs ≡ fine
+unfolding first
+first-fine [] h = refl
+first-fine (r ∷ rs) h = speaks? r
+    (λ z. or-silent r (first rs) z ∙ first-fine rs (sym (number-of (or-silent r (first rs) z)) ∙ h))
+    (λ n. absurd (n (sym (number-of (or-speaks r (first rs) n)) ∙ h)))
+
+pub or-silents : (r s : Refusal) → Silent (orElse r s) ↔ (Silent r × Silent s)
+or-silents r s = (out, λ h. number-of (or-silent r s (h .0)) ∙ h .1)
+  where
+    out : Silent (orElse r s) → Silent r × Silent s
+    out h = speaks? r (λ z. (z, sym (number-of (or-silent r s z)) ∙ h)) (λ n. absurd (n (sym (number-of (or-speaks r s n)) ∙ h)))
+
+pub first-silent : (rs : List Refusal) → Silent (first rs) ↔ Silents rs
+unfolding first Silents
+first-silent [] = (λ h. tt, λ h. refl)
+first-silent (r ∷ rs) = Iff·trans (or-silents r (first rs)) (Iff·and Iff·rfl (first-silent rs))
+
+pub silents-at : (rs : List Refusal) → Silents rs → (j : ℕ) → Silent (getD rs j fine)
+unfolding Silents
+silents-at [] h j = refl
+silents-at (r ∷ rs) h zero = h .0
+silents-at (r ∷ rs) h (suc j) = silents-at rs (h .1) j
+
+pub silents-all : (rs : List Refusal) → ((j : ℕ) → j < length rs → Silent (getD rs j fine)) → Silents rs
+unfolding Silents
+silents-all [] h = tt
+silents-all (r ∷ rs) h = (h 0 (omega arith), silents-all rs (λ j l. h (suc j) (omega arith)))
+
+pub first-append : (a b : List Refusal) → first (a ++ b) ≡ orElse (first a) (first b)
+unfolding first
+first-append [] b = sym (or-silent fine (first b) refl)
+first-append (r ∷ a) b = speaks? r
+    (λ z. or-silent r (first (a ++ b)) z ∙ first-append a b ∙ ap (λ (x : Refusal). orElse x (first b)) (sym (or-silent r (first a) z)))
+    (λ n. or-speaks r (first (a ++ b)) n ∙ sym (or-speaks r (first b) n) ∙ ap (λ (x : Refusal). orElse x (first b)) (sym (or-speaks r (first a) n)))
+
+-- the first check of the list that speaks says N at L
+pub record First (rs : List Refusal) (N L : ℕ) : Type 0 where
+  pub at : ℕ
+  pub inside : at < length rs
+  pub says : getD rs at fine ≡ refused N L
+  pub before : (j : ℕ) → j < at → Silent (getD rs j fine)
+
+-- which check speaks first: the first of the list, or one of the others where that is silent
+first-here : (r : Refusal) (rs : List Refusal) (N L : ℕ) → r ≡ refused N L → First (r ∷ rs) N L
+first-here r rs N L e = record { at = 0; inside = omega arith; says = e; before = λ j h. absurd (not-suc-le-zero h) }
+
+first-later : (r : Refusal) (rs : List Refusal) (N L : ℕ) → Silent r → First rs N L → First (r ∷ rs) N L
+first-later r rs N L z f = record { at = suc (f .at); inside = omega (arith, f .inside); says = f .says; before = before }
+  where
+    before : (j : ℕ) → j < suc (f .at) → Silent (getD (r ∷ rs) j fine)
+    before zero h = z
+    before (suc j) h = f .before j (omega arith)
+
+module _ (N L : ℕ) (some : N ≢ 0) where
+  says-some : {r : Refusal} → r ≡ refused N L → Silent r → ⊥
+  says-some e z = some (sym (number-of e) ∙ z)
+
+  first-found : (rs : List Refusal) → first rs ≡ refused N L → First rs N L
+  unfolding first
+  first-found [] e = absurd (some (sym (number-of e)))
+  first-found (r ∷ rs) e = speaks? r
+      (λ z. first-later r rs N L z (first-found rs (sym (or-silent r (first rs) z) ∙ e)))
+      (λ n. first-here r rs N L (sym (or-speaks r (first rs) n) ∙ e))
+
+  first-given : (rs : List Refusal) (k : ℕ) → k < length rs → getD rs k fine ≡ refused N L → ((j : ℕ) → j < k → Silent (getD rs j fine)) → first rs ≡ refused N L
+  unfolding first
+  first-given [] k l e b = absurd (not-suc-le-zero l)
+  first-given (r ∷ rs) zero l e b = or-speaks r (first rs) (says-some e) ∙ e
+  first-given (r ∷ rs) (suc k) l e b =
+      or-silent r (first rs) (b 0 (omega arith)) ∙ first-given rs k (omega arith) e (λ j h. b (suc j) (omega arith))
+
+  pub first-is : (rs : List Refusal) → (first rs ≡ refused N L) ↔ First rs N L
+  first-is rs = (first-found rs, λ f. first-given rs (f .at) (f .inside) (f .says) (f .before))
+
+-- a check and the next one say N at L exactly when the first does, or is silent and the other does
+pub or-says : (N L : ℕ) → N ≢ 0 → (r s : Refusal) → (orElse r s ≡ refused N L) ↔ ((r ≡ refused N L) ⊎ (Silent r × (s ≡ refused N L)))
+or-says N L some r s = (out, ⊎-elim (λ e. or-speaks r s (says-some N L some e) ∙ e) (λ h. or-silent r s (h .0) ∙ h .1))
+  where
+    out : orElse r s ≡ refused N L → (r ≡ refused N L) ⊎ (Silent r × (s ≡ refused N L))
+    out e = speaks? r (λ z. inr (z, sym (or-silent r s z) ∙ e)) (λ n. inl (sym (or-speaks r s n) ∙ e))
+
+pub says-last : (N L : ℕ) → N ≢ 0 → (r : Refusal) → (first (r ∷ []) ≡ refused N L) ↔ (r ≡ refused N L)
+unfolding first
+says-last N L some r = Iff·trans (or-says N L some r fine) (⊎-elim (λ e. e) (λ h. absurd (some (sym (number-of (h .1))))), inl)
+
+-- a single test says N at L exactly when it fails and L is its place, and nothing exactly when it passes
+pub test-exact : (N L M : ℕ) → N ≢ 0 → (wrong : Bool) → (test N M wrong ≡ refused N L) ↔ ((wrong ≡ true) × (L ≡ M))
+test-exact N L M some true = (λ e. (refl, sym (ap (λ (x : Refusal). x .place) e)), λ h. ap (refused N) (sym (h .1)))
+test-exact N L M some false = (λ e. absurd (some (sym (number-of e))), λ h. absurd (true≢false (sym (h .0))))
+
+pub test-silent : (N M : ℕ) → N ≢ 0 → (wrong : Bool) → Silent (test N M wrong) ↔ (wrong ≡ false)
+test-silent N M some true = (λ z. absurd (some z), λ e. absurd (true≢false e))
+test-silent N M some false = (λ z. refl, λ e. refl)
+
+pub test-alone : (N L : ℕ) → N ≢ 0 → (wrong : Bool) → test N L wrong ≡ first (test N L wrong ∷ [])
+unfolding first
+test-alone N L some true = sym (or-speaks (refused N L) fine some)
+test-alone N L some false = sym (or-silent fine fine refl)
+
+-- a check speaks with no number but N
+abbrev pub Only : ℕ → Refusal → Type 0
+Only N r = (Silent r → ⊥) → r .number ≡ N
+
+-- no check of the list speaks with number N
+unfoldable pub Others : ℕ → List Refusal → Type 0
+Others N [] = Unit
+Others N (r ∷ rs) = (r .number ≢ N) × Others N rs
+
+pub only-test : (N L : ℕ) (wrong : Bool) → Only N (test N L wrong)
+only-test N L true n = refl
+only-test N L false n = absurd (n refl)
+
+pub only-fine : (N : ℕ) → Only N fine
+only-fine N n = absurd (n refl)
+
+pub only-or : {N : ℕ} (r s : Refusal) → Only N r → Only N s → Only N (orElse r s)
+only-or r s hr hs n = speaks? r
+    (λ z. number-of (or-silent r s z) ∙ hs (λ k. n (number-of (or-silent r s z) ∙ k)))
+    (λ k. number-of (or-speaks r s k) ∙ hr k)
+
+pub only-map : {A : Type 0} (N : ℕ) (g : A → Refusal) → ((a : A) → Only N (g a)) → (l : List A) → Only N (first (map g l))
+unfolding first
+only-map N g h [] = only-fine N
+only-map N g h (a ∷ l) = only-or (g a) (first (map g l)) (h a) (only-map N g h l)
+
+pub only-tab : (N : ℕ) (g : ℕ → Refusal) → ((i : ℕ) → Only N (g i)) → (n : ℕ) → Only N (first (tab n g))
+unfolding first tab
+only-tab N g h zero = only-fine N
+only-tab N g h (suc k) = only-or (g zero) (first (tab k (λ i. g (suc i)))) (h zero) (only-tab N (λ i. g (suc i)) (λ i. h (suc i)) k)
+
+pub other : {N M : ℕ} (r : Refusal) → Only M r → N ≢ 0 → M ≢ N → r .number ≢ N
+other r only some apart e = apart (sym (only (λ z. some (sym e ∙ z))) ∙ e)
+
+module _ (N : ℕ) (some : N ≢ 0) where
+  first-other : (rs : List Refusal) → Others N rs → first rs .number ≢ N
+  unfolding first Others
+  first-other [] o e = some (sym e)
+  first-other (r ∷ rs) o e = speaks? r
+      (λ z. first-other rs (o .1) (sym (number-of (or-silent r (first rs) z)) ∙ e))
+      (λ n. o .0 (sym (number-of (or-speaks r (first rs) n)) ∙ e))
+
+  -- a list says N at L exactly when the checks before the one of that number are silent and that one says so
+  pub first-exact : (L : ℕ) (a : List Refusal) (r : Refusal) (b : List Refusal) → Others N a → Others N b → (first (a ++ (r ∷ b)) ≡ refused N L) ↔ (Silents a × (r ≡ refused N L))
+  unfolding first Silents Others
+  first-exact L [] r b oa ob = (λ e. (tt, there e), λ h. or-speaks r (first b) (says-some N L some (h .1)) ∙ h .1)
+    where
+      there : orElse r (first b) ≡ refused N L → r ≡ refused N L
+      there e = speaks? r
+          (λ z. absurd (first-other b ob (number-of (sym (or-silent r (first b) z) ∙ e))))
+          (λ n. sym (or-speaks r (first b) n) ∙ e)
+  first-exact L (x ∷ a) r b oa ob = (λ e. there e (first-exact L a r b (oa .1) ob .0), λ h. or-silent x _ (h .0 .0) ∙ first-exact L a r b (oa .1) ob .1 (h .0 .1, h .1))
+    where
+      there : orElse x (first (a ++ (r ∷ b))) ≡ refused N L → (first (a ++ (r ∷ b)) ≡ refused N L → Silents a × (r ≡ refused N L)) → (Silent x × Silents a) × (r ≡ refused N L)
+      there e ih = speaks? x
+          (λ z. let h = ih (sym (or-silent x _ z) ∙ e) in ((z, h .0), h .1))
+          (λ n. absurd (oa .0 (number-of (sym (or-speaks x _ n) ∙ e))))
+
+-- the first of the checks g 0, .. g (n - 1) that speaks says N at L: "lowest", "first such"
+pub record Lowest (g : ℕ → Refusal) (n N L : ℕ) : Type 0 where
+  pub at : ℕ
+  pub inside : at < n
+  pub says : g at ≡ refused N L
+  pub before : (j : ℕ) → j < at → Silent (g j)
+
+pub lowest-is : (N L : ℕ) → N ≢ 0 → (g : ℕ → Refusal) (n : ℕ) → (first (tab n g) ≡ refused N L) ↔ Lowest g n N L
+lowest-is N L some g n = Iff·trans (first-is N L some (tab n g)) (out, back)
+  where
+    out : First (tab n g) N L → Lowest g n N L
+    out f =
+        let l : f .at < n = rw (length-tab n g) at (f .inside) in
+        record {
+          at = f .at;
+          inside = l;
+          says = sym (tab-at n g (f .at) fine l) ∙ f .says;
+          before = λ j m. number-of (sym (tab-at n g j fine (omega arith))) ∙ f .before j m;
+        }
+
+    back : Lowest g n N L → First (tab n g) N L
+    back f = record {
+      at = f .at;
+      inside = rw (length-tab n g) (f .inside);
+      says = tab-at n g (f .at) fine (f .inside) ∙ f .says;
+      before = λ j m. number-of (tab-at n g j fine (omega (arith, f .inside))) ∙ f .before j m;
+    }
+
+pub all-silent : (g : ℕ → Refusal) (n : ℕ) → Silent (first (tab n g)) ↔ ((i : ℕ) → i < n → Silent (g i))
+all-silent g n = Iff·trans (first-silent (tab n g)) (λ h i l. number-of (sym (tab-at n g i fine l)) ∙ silents-at (tab n g) h i, λ h. silents-all (tab n g) (λ j l. let m : j < n = rw (length-tab n g) at l in number-of (tab-at n g j fine m) ∙ h j m))
+
+-- a silent check behind a list adds nothing
+pub first-last : (rs : List Refusal) → orElse (first rs) fine ≡ first rs
+first-last rs = speaks? (first rs)
+    (λ z. or-silent (first rs) fine z ∙ sym (first-fine rs z))
+    (λ n. or-speaks (first rs) fine n)
+
+-- the checks of lists in a row, and of a table
+module _ {A : Type 0} (g : A → Refusal) where
+  pub first-flat : (f : ℕ → List A) (n : ℕ) → first (map g (flat f n)) ≡ first (tab n (λ i. first (map g (f i))))
+  unfolding flat first tab
+  first-flat f zero = refl
+  first-flat f (suc n) =
+      let h : ℕ → Refusal = λ i. first (map g (f i)) in
+      ap first (map-append g (flat f n) (f n)) ∙ first-append (map g (flat f n)) (map g (f n))
+      ∙ ap (λ (r : Refusal). orElse r (h n)) (first-flat f n)
+      ∙ ap (λ (r : Refusal). orElse (first (tab n h)) r) (sym (first-last (map g (f n))))
+      ∙ sym (first-append (tab n h) (h n ∷ [])) ∙ ap first (sym (tab-last n h))
+
+  pub map-tab : (n : ℕ) (f : ℕ → A) → map g (tab n f) ≡ tab n (λ i. g (f i))
+  unfolding tab
+  map-tab zero f = refl
+  map-tab (suc n) f = ap (λ (l : List Refusal). g (f zero) ∷ l) (map-tab n (λ i. f (suc i)))
+
+-- a loop over the rows of a table that stops at the first refusal: row i stands at q + width * i, and h i says what is
+-- refused of it there; before row i, which stands at `at`, nothing was
+pub record Scanned (h : ℕ → ℕ → Refusal) (n q width i at : ℕ) : Type 0 where
+  pub within : i ≤ n
+  pub place : at ≡ q + width * i
+  pub silent : Silent (first (tab i (λ j. h j (q + width * j))))
+
+module _ (h : ℕ → ℕ → Refusal) (n q width : ℕ) where
+  turn : ℕ → Refusal
+  turn j = h j (q + width * j)
+
+  pub scan-start : Scanned h n q width 0 q
+  unfolding first tab
+  scan-start = record { within = zero-le; place = omega arith; silent = refl }
+
+  pub scan-more : {r : Refusal} {i at : ℕ} → Scanned h n q width i at → i < n → r ≡ h i at → Silent r → Scanned h n q width (i + 1) (at + width)
+  unfolding turn Silents
+  scan-more {r} {i} {at} s l e z = record {
+    within = omega arith;
+    place = omega (arith, s .place);
+    silent = number-of (ap first (tab-more i turn) ∙ first-append (tab i turn) (turn i ∷ [])) ∙ or-silents (first (tab i turn)) (first (turn i ∷ [])) .1 (s .silent, first-silent (turn i ∷ []) .1 (here, tt));
+  }
+    where
+      here : Silent (turn i)
+      here = sym (number-of (e ∙ ap (h i) (s .place))) ∙ z
+
+  pub scan-stop : {r : Refusal} {i at : ℕ} → Scanned h n q width i at → i < n → r ≡ h i at → (Silent r → ⊥) → r ≡ first (tab n (λ j. h j (q + width * j)))
+  unfolding turn
+  scan-stop {r} {i} {at} s l e k =
+      is ∙ sym (first-given (turn i .number) (turn i .place) (λ z. k (number-of is ∙ z)) (tab n turn) i (rw (length-tab n turn) l) (tab-at n turn i fine l) before)
+    where
+      is : r ≡ turn i
+      is = e ∙ ap (h i) (s .place)
+
+      before : (j : ℕ) → j < i → Silent (getD (tab n turn) j fine)
+      before j m =
+          number-of (tab-at n turn j fine (omega arith) ∙ sym (tab-at i turn j fine m)) ∙ silents-at (tab i turn) (first-silent (tab i turn) .0 (s .silent)) j
+
+  pub scan-end : {i at : ℕ} → Scanned h n q width i at → n ≤ i → fine ≡ first (tab n (λ j. h j (q + width * j)))
+  unfolding turn
+  scan-end {i} s l = let e : n ≡ i = omega (arith, s .within) in rw e (sym (first-fine (tab i turn) (s .silent)))

@@ -1,0 +1,5 @@
+pub mod Put
+pub mod Flat
+pub mod Table
+pub mod Words
+pub mod Rows

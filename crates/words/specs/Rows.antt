@@ -1,0 +1,53 @@
+-- Queue rows: five words in a row (01, Chain file: "a queue row has five words").
+--   none              the row of a slot that no queue has
+--   row q             the five words of a row, in file order
+--   rowAt s at        the row of s at `at`; none where it would pass the end
+--   row-there, -past  its two cases
+--   same-row          rows of equal words are equal
+--   row-made          five words, read where the row is there, are the row
+use mathlib.Core.Path.{_≡_, sym, _∙_}
+use mathlib.Core.Bool.{cond}
+use mathlib.Core.List.{List, [], _∷_}
+use Prim.Native.Nat.{ℕ, _+_, _≤_, _<_}
+use native.Mathlib.Omega.{arith}
+use lib.Dec.{leb}
+use borrow.Author.Tests.{le-leb, lt-leb}
+use lib.ListN.{length}
+use Rattle.words.specs.Words.{fourAt, wordAt, word-there}
+use Rattle.words.specs.declared.Queue.{Queue}
+
+-- the row of a slot that no queue has
+abbrev pub none : Queue
+none = record { produce = 0; threshold = 0; consume = 0; capacity = 0; reserved = 0 }
+
+-- produce p, threshold τ, consume c, capacity B, one reserved word
+abbrev pub row : Queue → List ℕ
+row q = q .produce ∷ q .threshold ∷ q .consume ∷ q .capacity ∷ q .reserved ∷ []
+
+-- the row whose five words stand from `at` on
+abbrev pub rowFrom : List ℕ → ℕ → Queue
+rowFrom s at = record { produce = wordAt s at; threshold = wordAt s (at + 4); consume = wordAt s (at + 8); capacity = wordAt s (at + 12); reserved = wordAt s (at + 16) }
+
+-- the row whose first byte stands at `at`; none where it would pass the end
+unfoldable pub rowAt : List ℕ → ℕ → Queue
+rowAt s at = cond (leb (at + 20) (length s)) (rowFrom s at) none
+
+pub row-there : (s : List ℕ) (at : ℕ) → at + 20 ≤ length s → rowAt s at ≡ rowFrom s at
+unfolding rowAt
+row-there s at h = simp (le-leb _ _ h)
+
+pub row-past : (s : List ℕ) (at : ℕ) → length s < at + 20 → rowAt s at ≡ none
+unfolding rowAt
+row-past s at h = simp (lt-leb _ _ h)
+
+pub same-row : {q r : Queue} → q .produce ≡ r .produce → q .threshold ≡ r .threshold → q .consume ≡ r .consume → q .capacity ≡ r .capacity → q .reserved ≡ r .reserved → q ≡ r
+same-row a b c d e = λ i. record { produce = a i; threshold = b i; consume = c i; capacity = d i; reserved = e i }
+
+pub row-made : (s : List ℕ) (at p τ c b z : ℕ) → at + 20 ≤ length s → p ≡ fourAt s at → τ ≡ fourAt s (at + 4) → c ≡ fourAt s (at + 8) → b ≡ fourAt s (at + 12) → z ≡ fourAt s (at + 16)
+    → record { produce = p; threshold = τ; consume = c; capacity = b; reserved = z } ≡ rowAt s at
+row-made s at p τ c b z h e f g k l =
+    same-row (e ∙ there at (omega arith)) (f ∙ there (at + 4) (omega arith)) (g ∙ there (at + 8) (omega arith)) (k ∙ there (at + 12) (omega arith)) (l ∙ there (at + 16) (omega arith))
+    ∙ sym (row-there s at h)
+  where
+    there : (o : ℕ) → o + 4 ≤ length s → fourAt s o ≡ wordAt s o
+    there o m = sym (word-there s o m)

@@ -1,0 +1,112 @@
+// Little-endian words of 32 bits on the caller's own bytes: a word, or a queue row of five, read at any place of any
+// bytes, and written at a place that has room. Nothing else in the library looks at a byte of a chain file.
+ghost use mathlib.Core.Path.{_≡_};
+ghost use mathlib.Core.List.{_∷_, []};
+ghost use Prim.Native.Nat.{_+_, _*_, _/_, _%_};
+ghost use Rattle.words.specs.Put.{Room, Puts};
+ghost use Rattle.words.specs.Words.{bytesOf, fourAt, wordAt};
+ghost use Rattle.words.specs.Rows.{row, rowAt};
+
+// A queue row: produce, threshold and consume of 01, the capacity B and the reserved word.
+#[repr(C)]
+pub struct Queue {
+    pub produce: u32,
+    pub threshold: u32,
+    pub consume: u32,
+    pub capacity: u32,
+    pub reserved: u32,
+}
+
+// The row of a slot that no queue has.
+pub const NONE: Queue = Queue {
+    produce: 0,
+    threshold: 0,
+    consume: 0,
+    capacity: 0,
+    reserved: 0,
+};
+
+// The word whose first byte stands at `at`, or 0 where it would pass the end.
+pub fn word_of(bytes: &[u8], at: usize) -> u32
+    ensures { λ r. ⌜ r ≡ wordAt (now (bytes .entry)) at ⌝ }
+{
+    let n = bytes.len();
+    if n < 4 {
+        return 0;
+    }
+    if n - 4 < at {
+        return 0;
+    }
+    word(bytes, at)
+}
+
+// The queue row whose first byte stands at `at`, or no row where it would pass the end.
+pub fn row_of(bytes: &[u8], at: usize) -> Queue
+    ensures { λ r. ⌜ r ≡ rowAt (now (bytes .entry)) at ⌝ }
+{
+    let n = bytes.len();
+    if n < 20 {
+        return NONE;
+    }
+    if n - 20 < at {
+        return NONE;
+    }
+    let produce = word(bytes, at);
+    let threshold = word(bytes, at + 4);
+    let consume = word(bytes, at + 8);
+    let capacity = word(bytes, at + 12);
+    let reserved = word(bytes, at + 16);
+    Queue {
+        produce: produce,
+        threshold: threshold,
+        consume: consume,
+        capacity: capacity,
+        reserved: reserved,
+    }
+}
+
+// Writes a word at `at`, and answers the place behind it.
+pub fn put_word(out: &mut [u8], at: usize, w: u32) -> usize
+    requires { ⌜ Room (now out) at 4 ⌝ }
+    ensures { λ r. ⌜ Puts (now (out .entry)) at (bytesOf (w ∷ [])) (now (out .exit)) r ⌝ }
+{
+    out[at] = low(w);
+    out[at + 1] = low(w / 256);
+    out[at + 2] = low(w / 65536);
+    out[at + 3] = low(w / 16777216);
+    at + 4
+}
+
+// Writes a queue row at `at`, and answers the place behind it.
+pub fn put_row(out: &mut [u8], at: usize, q: Queue) -> usize
+    requires { ⌜ Room (now out) at 20 ⌝ }
+    ensures { λ r. ⌜ Puts (now (out .entry)) at (bytesOf (row q)) (now (out .exit)) r ⌝ }
+{
+    let a = put_word(out, at, q.produce);
+    let b = put_word(out, a, q.threshold);
+    let c = put_word(out, b, q.consume);
+    let d = put_word(out, c, q.capacity);
+    put_word(out, d, q.reserved)
+}
+
+// The word at a place where its four bytes are.
+fn word(bytes: &[u8], at: usize) -> u32
+    requires { ⌜ Room (now bytes) at 4 ⌝ }
+    ensures { λ r. ⌜ r ≡ fourAt (now (bytes .entry)) at ⌝ }
+{
+    joined(bytes[at], bytes[at + 1], bytes[at + 2], bytes[at + 3])
+}
+
+// Four bytes, the lowest first, as one number.
+fn joined(b0: u8, b1: u8, b2: u8, b3: u8) -> u32
+    ensures { λ r. ⌜ r ≡ b0 + 256 * b1 + 65536 * b2 + 16777216 * b3 ⌝ }
+{
+    (b0 as u32) + 256 * (b1 as u32) + 65536 * (b2 as u32) + 16777216 * (b3 as u32)
+}
+
+// The lowest byte of a word.
+fn low(w: u32) -> u8
+    ensures { λ r. ⌜ r ≡ w % 256 ⌝ }
+{
+    (w % 256) as u8
+}

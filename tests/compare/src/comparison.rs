@@ -1,0 +1,268 @@
+//! The comparison of one call on one input: the answer, the lent memory, and the way back through
+//! the other call.
+
+use crate::records::Record;
+use crate::tally::Tally;
+use compare::library;
+use compare::random::Random;
+use std::mem::size_of;
+use yardstick::{packed_length, Chain, ChainAnswer, LengthAnswer, Queue, MAX_QUEUES};
+
+/// The random bytes behind lent memory, and one more than the most before it.
+const MARGIN: usize = 16;
+
+/// The most bytes that are shown of an input.
+const SHOWN: usize = 4_100;
+
+/// What the library gave where something else was due.
+pub struct Difference {
+    pub what: &'static str,
+    pub library: String,
+    pub due: String,
+}
+
+/// A struct without padding, so that its bytes are its fields.
+pub trait Plain: Sized {
+    /// The struct's bytes.
+    fn bytes(&self) -> &[u8] {
+        // SAFETY: by the sizes below, every byte of the struct is a byte of one of its fields.
+        unsafe { std::slice::from_raw_parts((self as *const Self).cast(), size_of::<Self>()) }
+    }
+}
+
+impl Plain for Chain {}
+impl Plain for ChainAnswer {}
+impl Plain for LengthAnswer {}
+
+const _: () = assert!(size_of::<Chain>() == 4 * (2 + 5 * MAX_QUEUES + MAX_QUEUES));
+const _: () = assert!(size_of::<ChainAnswer>() == 4 + 4 + size_of::<Chain>());
+const _: () = assert!(size_of::<LengthAnswer>() == 4 + 4 + 8);
+
+/// Memory to lend, in the middle of random bytes and at any alignment.
+#[derive(Clone)]
+struct Lent {
+    memory: Vec<u8>,
+    start: usize,
+    length: usize,
+}
+
+impl Lent {
+    /// Random bytes to lend.
+    fn random(random: &mut Random, length: usize) -> Self {
+        let start = random.below(MARGIN);
+        Lent {
+            memory: random.bytes(start + length + MARGIN),
+            start,
+            length,
+        }
+    }
+
+    /// A file to lend.
+    fn file(random: &mut Random, file: &[u8]) -> Self {
+        let mut lent = Lent::random(random, file.len());
+        lent.bytes().copy_from_slice(file);
+        lent
+    }
+
+    /// What is lent.
+    fn bytes(&mut self) -> &mut [u8] {
+        &mut self.memory[self.start..][..self.length]
+    }
+}
+
+/// Compares reading a file; a chain that was read must be written as the file's packed form.
+pub fn read(seen: &mut Tally, random: &mut Random, file: &[u8]) -> Result<(), Difference> {
+    let mut lent = Lent::file(random, file);
+    let before = lent.memory.clone();
+    let answer = library::read(lent.bytes());
+    seen.count(answer.number);
+    same_answer("the answer", &answer, &yardstick::read(file))?;
+    same_bytes(
+        "the memory of the file and around it",
+        &lent.memory,
+        &before,
+    )?;
+    match answer.number {
+        0 => written_as(random, &answer.chain, &packed_form(file)),
+        _ => Ok(()),
+    }
+}
+
+/// Compares writing a record; a file that was written must be the packed one and give the record
+/// back.
+pub fn write(seen: &mut Tally, random: &mut Random, record: &Record) -> Result<(), Difference> {
+    let mut lent = Lent::random(random, record.room);
+    let mut due = lent.clone();
+    let answer = library::write(&record.chain, lent.bytes());
+    seen.count(answer.number);
+    same_answer(
+        "the answer",
+        &answer,
+        &yardstick::write(&record.chain, due.bytes()),
+    )?;
+    same_bytes("the memory lent and around it", &lent.memory, &due.memory)?;
+    match answer.number {
+        0 => {
+            let file = &lent.bytes()[..answer.length as usize];
+            same_bytes("the packed file", file, &packed_file(&record.chain))?;
+            read_as(file, &without_litter(&record.chain))
+        }
+        _ => Ok(()),
+    }
+}
+
+/// Compares a factory chain; it must be written as its packed file and come back from it.
+pub fn factory(seen: &mut Tally, random: &mut Random, number: u32) -> Result<(), Difference> {
+    let answer = library::factory(number);
+    seen.count(answer.number);
+    same_answer("the answer", &answer, &yardstick::factory(number))?;
+    match answer.number {
+        0 => {
+            let file = packed_file(&answer.chain);
+            written_as(random, &answer.chain, &file)?;
+            read_as(&file, &answer.chain)
+        }
+        _ => Ok(()),
+    }
+}
+
+/// Compares reading a file that is too large to be copied.
+pub fn read_large(seen: &mut Tally, file: &[u8]) -> Result<(), Difference> {
+    let answer = library::read(file);
+    seen.count(answer.number);
+    same_answer("the answer", &answer, &yardstick::read(file))
+}
+
+/// Compares writing a valid chain to memory that is too large to be copied; its first bytes are
+/// looked at.
+pub fn write_large(seen: &mut Tally, chain: &Chain, out: &mut [u8]) -> Result<(), Difference> {
+    let mut due = out[..packed_length(MAX_QUEUES)].to_vec();
+    let answer = library::write(chain, out);
+    seen.count(answer.number);
+    same_answer("the answer", &answer, &yardstick::write(chain, &mut due))?;
+    same_bytes("the first bytes lent", &out[..due.len()], &due)
+}
+
+/// Whether the library writes a chain as these bytes, given no more room than they need.
+fn written_as(random: &mut Random, chain: &Chain, file: &[u8]) -> Result<(), Difference> {
+    let mut lent = Lent::random(random, file.len());
+    let due = LengthAnswer {
+        number: 0,
+        place: 0,
+        length: file.len() as u64,
+    };
+    same_answer(
+        "the answer of writing the chain",
+        &library::write(chain, lent.bytes()),
+        &due,
+    )?;
+    same_bytes("the chain written", lent.bytes(), file)
+}
+
+/// Whether the library reads a file as this chain.
+fn read_as(file: &[u8], chain: &Chain) -> Result<(), Difference> {
+    let due = ChainAnswer {
+        number: 0,
+        place: 0,
+        chain: *chain,
+    };
+    same_answer("the answer of reading the file", &library::read(file), &due)
+}
+
+/// Whether two answers have the same bytes.
+fn same_answer<T: Plain>(what: &'static str, library: &T, due: &T) -> Result<(), Difference> {
+    if library.bytes() == due.bytes() {
+        return Ok(());
+    }
+    Err(Difference {
+        what,
+        library: decimal(library.bytes()),
+        due: decimal(due.bytes()),
+    })
+}
+
+/// Whether bytes are the same.
+fn same_bytes(what: &'static str, library: &[u8], due: &[u8]) -> Result<(), Difference> {
+    if library == due {
+        return Ok(());
+    }
+    Err(Difference {
+        what,
+        library: hex(library),
+        due: hex(due),
+    })
+}
+
+/// The packed file of a chain whose n is valid.
+fn packed_file(chain: &Chain) -> Vec<u8> {
+    let n = chain.n as usize;
+    let queues: Vec<u8> = chain.queues[..n].iter().flat_map(row_bytes).collect();
+    let nodes: Vec<u8> = chain.work[..n]
+        .iter()
+        .flat_map(|work| work.to_le_bytes())
+        .collect();
+    packed(chain.n, chain.period, &queues, &nodes)
+}
+
+/// The packed form of a valid file: its own tables behind a new header.
+fn packed_form(file: &[u8]) -> Vec<u8> {
+    let word = |at: usize| u32::from_le_bytes([file[at], file[at + 1], file[at + 2], file[at + 3]]);
+    let n = word(0) as usize;
+    let queues = &file[word(8) as usize..][..20 * n];
+    let nodes = &file[word(12) as usize..][..4 * n];
+    packed(word(0), word(4), queues, nodes)
+}
+
+/// The packed file of two tables: n, y, 20, 20+20n, 20+24n, the queue table's bytes, the node
+/// table's bytes.
+fn packed(n: u32, period: u32, queues: &[u8], nodes: &[u8]) -> Vec<u8> {
+    let header = [n, period, 20, 20 + 20 * n, 20 + 24 * n];
+    let mut file: Vec<u8> = header.iter().flat_map(|word| word.to_le_bytes()).collect();
+    file.extend_from_slice(queues);
+    file.extend_from_slice(nodes);
+    file
+}
+
+/// The bytes of a queue row.
+fn row_bytes(queue: &Queue) -> Vec<u8> {
+    let row = [
+        queue.produce,
+        queue.threshold,
+        queue.consume,
+        queue.capacity,
+        queue.reserved,
+    ];
+    row.iter().flat_map(|word| word.to_le_bytes()).collect()
+}
+
+/// A chain whose n is valid, with zeros in its slots past n.
+fn without_litter(chain: &Chain) -> Chain {
+    let mut chain = *chain;
+    chain.queues[chain.n as usize..].fill(Queue::default());
+    chain.work[chain.n as usize..].fill(0);
+    chain
+}
+
+/// The words of an answer as decimal numbers: number, place, and the rest.
+fn decimal(answer: &[u8]) -> String {
+    let words = answer
+        .chunks_exact(4)
+        .map(|word| u32::from_le_bytes([word[0], word[1], word[2], word[3]]));
+    words
+        .map(|word| word.to_string())
+        .collect::<Vec<_>>()
+        .join(" ")
+}
+
+/// Bytes as hex, cut where they are very long.
+pub fn hex(bytes: &[u8]) -> String {
+    let digits: String = bytes
+        .iter()
+        .take(SHOWN)
+        .map(|byte| format!("{byte:02x}"))
+        .collect();
+    match bytes.len().saturating_sub(SHOWN) {
+        0 => digits,
+        more => format!("{digits} and {more} more bytes"),
+    }
+}
