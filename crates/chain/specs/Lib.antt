@@ -2,6 +2,4 @@ pub mod Tests
 pub mod Refusals
 pub mod Record
 pub mod Checks
-pub mod File
-pub mod Packed
 pub mod Factory

@@ -1,9 +1,13 @@
-// The chain record and its file: the refusal, the record's own checks, the reader, the writer and the factory chains.
-// Every call here takes anything and answers; a refused one makes nothing and writes nothing.
+// The chain record: the refusal, the checks 2, 4 and 5 of a chain's own numbers, and the factory chains.
 mod checks;
+mod stock;
 pub use words::Queue;
 pub use checks::FINE;
 pub use checks::check_chain;
+pub use checks::check_tables;
+pub use checks::count_check;
+pub use checks::test;
+pub use stock::factory;
 
 // A refusal number of 01 with its place; number 0 and place 0 where nothing is refused.
 #[repr(C)]
@@ -29,10 +33,10 @@ pub struct ChainAnswer {
     pub chain: Chain,
 }
 
-// How many bytes were written, or the refusal.
-#[repr(C)]
-pub struct LengthAnswer {
-    pub number: u32,
-    pub place: u32,
-    pub length: u64,
-}
+// The chain of a refused call.
+pub const EMPTY: Chain = Chain {
+    n: 0,
+    period: 0,
+    queues: [words::NONE; 16],
+    work: [0; 16],
+};

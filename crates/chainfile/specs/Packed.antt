@@ -21,13 +21,13 @@ use Rattle.words.specs.Put.{Puts, puts-none, put-front}
 use Rattle.words.specs.Flat.{flat, flat-more, flat-length}
 use Rattle.words.specs.Words.{bytesOf, bytes-length, then-words}
 use Rattle.words.specs.Rows.{row}
 use Rattle.chain.specs.Tests.{below-true}
 use Rattle.chain.specs.Refusals.{refused, fine, test, first, orElse, Silent, Only, only-test, test-exact, first-append}
 use Rattle.chain.specs.Record.{rowOf, workOf}
 use Rattle.chain.specs.Checks.{countCheck, rangeCheck, orderCheck, chainRefusal}
 use Rattle.chain.specs.declared.Refusal.{Refusal}
 use Rattle.chain.specs.declared.Chain.{Chain}
-use Rattle.chain.specs.declared.LengthAnswer.{LengthAnswer}
+use Rattle.chainfile.specs.declared.LengthAnswer.{LengthAnswer}
 
 -- "length 20+24n"
 abbrev pub packedLength : ℕ → ℕ

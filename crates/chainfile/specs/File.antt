@@ -1,0 +1,189 @@
+-- The chain file: what its words say, the checks 1 and 3 of where they stand, and what the reader answers (01, Chain file).
+--   countOf f, periodOf f, queuesAt f, nodesAt f, totalOf f
+--                              the header's five words
+--   chainOf f                  the chain that the words of f say, slots past n zero
+--   lengthCheck f              1: the length, or the total word
+--   offsetCheck len n q w      3: where the tables stand
+--   readRefusal f, readAnswer f
+--                              what the reader refuses f with, and its whole answer
+--   BadTable, Shared, Misplaced
+--                              01's condition of 3, in words
+--   length-exact, offset-exact each check speaks exactly under its condition
+--   Placed f, placed           what 1, 2 and 3 leave to be known of a file
+use mathlib.Core.Path.{_≡_, refl, sym, ap, _∙_}
+use mathlib.Core.Bool.{Bool, true, false, _||_, _&&_, not}
+use mathlib.Core.Logic.{_↔_, _≢_, _⊎_, inl, inr, ⊎-elim, Iff·trans, Iff·and, Iff·rfl}
+use mathlib.Core.List.{List, [], _∷_}
+use Prim.Native.Nat.{ℕ, _+_, _*_, _%_, _≤_, _<_, max}
+use native.Mathlib.Omega.{arith}
+use lib.Dec.{ltb, eqb}
+use lib.ListN.{length}
+use Rattle.words.specs.Rows.{none, rowAt}
+use Rattle.words.specs.Table.{tab, slots}
+use Rattle.words.specs.Words.{wordAt}
+use Rattle.chain.specs.Refusals.{refused, test, first, orElse, Silent, Silents, Only, only-test, only-fine, only-or, test-exact, test-silent, first-silent, first-append, or-says, says-last}
+use Rattle.chain.specs.Record.{answered}
+use Rattle.chain.specs.Tests.{outside, Out, In, outside-true, outside-false, or-true, or-false, and-true, sum-iff, below-true, below-false, differ-true, differ-false}
+use Rattle.chain.specs.Checks.{countCheck, count-silent, rangeCheck, orderCheck, Table, Tables}
+use Rattle.chain.specs.declared.Refusal.{Refusal}
+use Rattle.chain.specs.declared.Chain.{Chain}
+use Rattle.chain.specs.declared.ChainAnswer.{ChainAnswer}
+
+-- "five words: n, source period y in ticks, byte offset of the queue table, byte offset of the node table, total length in bytes"
+abbrev pub countOf : List ℕ → ℕ
+countOf f = wordAt f 0
+
+abbrev pub periodOf : List ℕ → ℕ
+periodOf f = wordAt f 4
+
+abbrev pub queuesAt : List ℕ → ℕ
+queuesAt f = wordAt f 8
+
+abbrev pub nodesAt : List ℕ → ℕ
+nodesAt f = wordAt f 12
+
+abbrev pub totalOf : List ℕ → ℕ
+totalOf f = wordAt f 16
+
+-- the chain that the words of f say: row i of the queue table, word i of the node table; slots past n are zero
+unfoldable pub chainOf : List ℕ → Chain
+chainOf f = record {
+  n = countOf f;
+  period = periodOf f;
+  queues = slots (λ i. rowAt f (queuesAt f + 20 * i)) none 16 (countOf f);
+  work = slots (λ i. wordAt f (nodesAt f + 4 * i)) 0 16 (countOf f);
+}
+
+-- 1: "length under 20 or over 4,096, or total word differs from length", place 0
+abbrev pub lengthCheck : List ℕ → Refusal
+lengthCheck f = test 1 0 (outside 20 4096 (length f) || not (eqb (totalOf f) (length f)))
+
+-- "a table offset is no multiple of 4, is below 20, or its table passes the end"
+abbrev pub misplaced : ℕ → ℕ → ℕ → Bool
+misplaced len at end = not (eqb (at % 4) 0) || (ltb at 20 || ltb len end)
+
+-- "or the tables overlap": each begins before the other ends
+abbrev pub overlap : ℕ → ℕ → ℕ → ℕ → Bool
+overlap q qEnd w wEnd = ltb q wEnd && ltb w qEnd
+
+-- place "8 (queue offset, tested first), 12 (node offset, then overlap)"; the tables stand at q and w
+abbrev pub offsetTests : ℕ → ℕ → ℕ → ℕ → List Refusal
+offsetTests len n q w = test 3 8 (misplaced len q (q + 20 * n)) ∷ test 3 12 (misplaced len w (w + 4 * n)) ∷ test 3 12 (overlap q (q + 20 * n) w (w + 4 * n)) ∷ []
+
+-- 3: the first of these that speaks
+unfoldable pub offsetCheck : ℕ → ℕ → ℕ → ℕ → Refusal
+unfolding first
+offsetCheck len n q w = first (offsetTests len n q w)
+
+-- "the reader checks 1 to 5"
+unfoldable pub readRefusal : List ℕ → Refusal
+unfolding first offsetCheck chainOf rangeCheck orderCheck
+readRefusal f = first (lengthCheck f ∷ countCheck (countOf f) ∷ offsetCheck (length f) (countOf f) (queuesAt f) (nodesAt f) ∷ rangeCheck (chainOf f) (queuesAt f) (nodesAt f) ∷ orderCheck (chainOf f) (queuesAt f) ∷ [])
+
+-- what the reader answers to any bytes
+unfoldable pub readAnswer : List ℕ → ChainAnswer
+unfolding answered readRefusal chainOf
+readAnswer f = answered (readRefusal f) (chainOf f)
+
+-- 1 in words
+abbrev pub BadLength : List ℕ → Type 0
+BadLength f = Out 20 4096 (length f) ⊎ (totalOf f ≢ length f)
+
+pub length-exact : (L : ℕ) (f : List ℕ) → (lengthCheck f ≡ refused 1 L) ↔ (BadLength f × (L ≡ 0))
+length-exact L f = Iff·trans (test-exact 1 L 0 (λ e. omega arith) _) (Iff·and (or-true (outside-true 20 4096 (length f)) (differ-true (totalOf f) (length f))) Iff·rfl)
+
+pub length-silent : (f : List ℕ) → Silent (lengthCheck f) ↔ (In 20 4096 (length f) × (totalOf f ≡ length f))
+length-silent f = Iff·trans (test-silent 1 0 (λ e. omega arith) _) (or-false (outside-false 20 4096 (length f)) (differ-false (totalOf f) (length f)))
+
+pub length-only : (f : List ℕ) → Only 1 (lengthCheck f)
+length-only f = only-test 1 0 (outside 20 4096 (length f) || not (eqb (totalOf f) (length f)))
+
+-- 3 in words: a table that begins at `at` and ends before `end` stands wrong in a file of `len` bytes
+abbrev pub BadTable : ℕ → ℕ → ℕ → Type 0
+BadTable len at end = (at % 4 ≢ 0) ⊎ ((at < 20) ⊎ (len < end))
+
+-- and well
+abbrev pub GoodTable : ℕ → ℕ → ℕ → Type 0
+GoodTable len at end = (at % 4 ≡ 0) × ((20 ≤ at) × (end ≤ len))
+
+-- some byte lies in both tables
+pub record Shared (q qEnd w wEnd : ℕ) : Type 0 where
+  pub byte : ℕ
+  pub in-queues : (q ≤ byte) × (byte < qEnd)
+  pub in-nodes : (w ≤ byte) × (byte < wEnd)
+
+pub bad-table : (len at end : ℕ) → (misplaced len at end ≡ true) ↔ BadTable len at end
+bad-table len at end = or-true (differ-true (at % 4) 0) (or-true (below-true at 20) (below-true len end))
+
+pub good-table : (len at end : ℕ) → (misplaced len at end ≡ false) ↔ GoodTable len at end
+good-table len at end = or-false (differ-false (at % 4) 0) (or-false (below-false at 20) (below-false len end))
+
+-- two tables, neither of them empty, overlap exactly when some byte lies in both
+pub overlap-true : (q qEnd w wEnd : ℕ) → q < qEnd → w < wEnd → (overlap q qEnd w wEnd ≡ true) ↔ Shared q qEnd w wEnd
+overlap-true q qEnd w wEnd hq hw = Iff·trans (and-true (below-true q wEnd) (below-true w qEnd)) (out, λ s. (omega (arith, s .in-queues, s .in-nodes), omega (arith, s .in-queues, s .in-nodes)))
+  where
+    out : (q < wEnd) × (w < qEnd) → Shared q qEnd w wEnd
+    out h = record { byte = max q w; in-queues = (omega arith, omega arith); in-nodes = (omega arith, omega arith) }
+
+-- the queue offset's reasons at place 8; else the node offset's at place 12; else, at place 12, a byte in both tables
+abbrev pub Misplaced : ℕ → ℕ → ℕ → ℕ → ℕ → Type 0
+Misplaced len n q w L = (BadTable len q (q + 20 * n) × (L ≡ 8)) ⊎ (GoodTable len q (q + 20 * n) × ((BadTable len w (w + 4 * n) × (L ≡ 12)) ⊎ (GoodTable len w (w + 4 * n) × (Shared q (q + 20 * n) w (w + 4 * n) × (L ≡ 12)))))
+
+pub offset-exact : (L len n q w : ℕ) → 0 < n → (offsetCheck len n q w ≡ refused 3 L) ↔ Misplaced len n q w L
+unfolding offsetCheck first
+offset-exact L len n q w h =
+    Iff·trans (or-says 3 L three _ _) (sum-iff (bad 8 q (q + 20 * n)) (Iff·and (good 8 q (q + 20 * n))
+    (Iff·trans (or-says 3 L three _ _) (sum-iff (bad 12 w (w + 4 * n)) (Iff·and (good 12 w (w + 4 * n))
+    (Iff·trans (says-last 3 L three _) (Iff·trans (test-exact 3 L 12 three _) (Iff·and (overlap-true q (q + 20 * n) w (w + 4 * n) (omega arith) (omega arith)) Iff·rfl))))))))
+  where
+    three : _≢_ {A = ℕ} 3 0
+    three e = omega arith
+
+    bad : (P at end : ℕ) → (test 3 P (misplaced len at end) ≡ refused 3 L) ↔ (BadTable len at end × (L ≡ P))
+    bad P at end = Iff·trans (test-exact 3 L P three _) (Iff·and (bad-table len at end) Iff·rfl)
+
+    good : (P at end : ℕ) → Silent (test 3 P (misplaced len at end)) ↔ GoodTable len at end
+    good P at end = Iff·trans (test-silent 3 P three _) (good-table len at end)
+
+pub offset-only : (len n q w : ℕ) → Only 3 (offsetCheck len n q w)
+unfolding offsetCheck first
+offset-only len n q w =
+    only-or _ _ (only-test 3 8 (misplaced len q (q + 20 * n)))
+    (only-or _ _ (only-test 3 12 (misplaced len w (w + 4 * n))) (only-or _ _ (only-test 3 12 (overlap q (q + 20 * n) w (w + 4 * n))) (only-fine 3)))
+
+-- the checks of a file before its rows are looked at
+unfoldable pub headerRefusal : List ℕ → Refusal
+unfolding first offsetCheck
+headerRefusal f = first (lengthCheck f ∷ countCheck (countOf f) ∷ offsetCheck (length f) (countOf f) (queuesAt f) (nodesAt f) ∷ [])
+
+-- what they leave to be known: the count, the length, the total word and where the tables stand
+pub record Placed (f : List ℕ) : Type 0 where
+  pub count : In 1 16 (countOf f)
+  pub long : In 20 4096 (length f)
+  pub total : totalOf f ≡ length f
+  pub queues : GoodTable (length f) (queuesAt f) (queuesAt f + 20 * countOf f)
+  pub nodes : GoodTable (length f) (nodesAt f) (nodesAt f + 4 * countOf f)
+
+pub placed : {r : Refusal} (f : List ℕ) → r ≡ headerRefusal f → Silent r → Placed f
+unfolding headerRefusal Silents offsetCheck
+placed f e z = record { count = count-silent (countOf f) .0 (h .1 .0); long = length-silent f .0 (h .0) .0; total = length-silent f .0 (h .0) .1; queues = good 8 (queuesAt f) (queuesAt f + 20 * countOf f) (o .0); nodes = good 12 (nodesAt f) (nodesAt f + 4 * countOf f) (o .1 .0) }
+  where
+    h : Silents (lengthCheck f ∷ countCheck (countOf f) ∷ offsetCheck (length f) (countOf f) (queuesAt f) (nodesAt f) ∷ [])
+    h = first-silent (lengthCheck f ∷ countCheck (countOf f) ∷ offsetCheck (length f) (countOf f) (queuesAt f) (nodesAt f) ∷ []) .0 (ap (λ (x : Refusal). x .number) (sym e) ∙ z)
+
+    o : Silents (offsetTests (length f) (countOf f) (queuesAt f) (nodesAt f))
+    o = first-silent (offsetTests (length f) (countOf f) (queuesAt f) (nodesAt f)) .0 (h .1 .1 .0)
+
+    good : (P at end : ℕ) → Silent (test 3 P (misplaced (length f) at end)) → GoodTable (length f) at end
+    good P at end s = good-table (length f) at end .0 (test-silent 3 P (λ e. omega arith) _ .0 s)
+
+pub placed-tables : (f : List ℕ) → Placed f → Tables (countOf f) (queuesAt f) (nodesAt f)
+placed-tables f p = record {
+  queues = record { few = p .count .1; ends = omega (arith, p .queues .1 .1, p .long .1) };
+  nodes = record { few = p .count .1; ends = omega (arith, p .nodes .1 .1, p .long .1) };
+}
+
+-- the whole list of the reader's checks is the header's, then the rows'
+pub read-parts : (f : List ℕ) → readRefusal f ≡ orElse (headerRefusal f) (first (rangeCheck (chainOf f) (queuesAt f) (nodesAt f) ∷ orderCheck (chainOf f) (queuesAt f) ∷ []))
+unfolding readRefusal headerRefusal
+read-parts f = first-append (lengthCheck f ∷ countCheck (countOf f) ∷ offsetCheck (length f) (countOf f) (queuesAt f) (nodesAt f) ∷ []) (rangeCheck (chainOf f) (queuesAt f) (nodesAt f) ∷ orderCheck (chainOf f) (queuesAt f) ∷ [])
