@@ -3,6 +3,7 @@
 
 use compare::chains::valid;
 use compare::library::{ardenquill_read, ardenquill_write};
+use compare::packed::packed_file;
 use compare::random::Random;
 use std::hint::black_box;
 use std::slice;
@@ -57,18 +58,7 @@ fn refused_last(mut chains: Vec<Chain>) -> Vec<Chain> {
 
 /// The packed files of chains, whether or not a chain is refused.
 fn files(chains: &[Chain]) -> Vec<Vec<u8>> {
-    chains.iter().map(packed).collect()
-}
-
-/// The packed file of a chain.
-fn packed(chain: &Chain) -> Vec<u8> {
-    let n = chain.n;
-    let header = [n, chain.period, 20, 20 + 20 * n, 20 + 24 * n];
-    let queues = chain.queues[..n as usize].iter();
-    let rows = queues.flat_map(|q| [q.produce, q.threshold, q.consume, q.capacity, q.reserved]);
-    let nodes = chain.work[..n as usize].iter().copied();
-    let words = header.into_iter().chain(rows).chain(nodes);
-    words.flat_map(u32::to_le_bytes).collect()
+    chains.iter().map(packed_file).collect()
 }
 
 /// The files with a total word that is one too large.
@@ -105,8 +95,8 @@ fn read_line(name: &str, files: &[Vec<u8>], number: u32) {
     });
 }
 
-/// Prints the line of writing some chains to room that differs from what is needed by `lacking`
-/// bytes, each of which must be answered with a number.
+/// Prints the line of writing some chains to room that is `lacking` bytes short of what they
+/// need, each of which must be answered with a number.
 fn write_line(name: &str, chains: &[Chain], lacking: usize, number: u32) {
     let mut out = vec![0; packed_length(chains[0].n as usize) - lacking];
     for chain in chains {

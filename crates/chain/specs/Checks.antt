@@ -286,6 +286,10 @@ pub sound : (c : Chain) → Silent (chainRefusal c) ↔ Sound c
 unfolding chainRefusal
 sound c = Iff·trans (first-silent (countCheck (c .n) ∷ rangeCheck c 20 (20 + 20 * c .n) ∷ orderCheck c 20 ∷ [])) (sound-is c 20 (20 + 20 * c .n))
 
+-- the same of an answer that code was given
+pub sound-known : {r : Refusal} (c : Chain) → r ≡ chainRefusal c → Silent r → Sound c
+sound-known c e z = sound c .0 (sym (ap (λ (x : Refusal). x .number) e) ∙ z)
+
 -- a table of n rows of a width that stands at a place of a file
 pub record Table (n at width : ℕ) : Type 0 where
   pub few : n ≤ 16

@@ -10,7 +10,7 @@
 --                              01's condition of 3, in words
 --   length-exact, offset-exact each check speaks exactly under its condition
 --   Placed f, placed           what 1, 2 and 3 leave to be known of a file
-use mathlib.Core.Path.{_≡_, refl, sym, ap, _∙_}
+use mathlib.Core.Path.{_≡_, refl, sym, ap, ap₂, _∙_}
 use mathlib.Core.Bool.{Bool, true, false, _||_, _&&_, not}
 use mathlib.Core.Logic.{_↔_, _≢_, _⊎_, inl, inr, ⊎-elim, Iff·trans, Iff·and, Iff·rfl}
 use mathlib.Core.List.{List, [], _∷_}
@@ -21,8 +21,9 @@ use lib.ListN.{length}
 use Rattle.words.specs.Rows.{none, rowAt}
 use Rattle.words.specs.Table.{tab, slots}
 use Rattle.words.specs.Words.{wordAt}
-use Rattle.chain.specs.Refusals.{refused, test, first, orElse, Silent, Silents, Only, only-test, only-fine, only-or, test-exact, test-silent, first-silent, first-append, or-says, says-last}
-use Rattle.chain.specs.Record.{answered}
+use Rattle.words.specs.declared.Queue.{Queue}
+use Rattle.chain.specs.Refusals.{refused, test, first, first-last, orElse, Silent, Silents, Only, only-test, only-fine, only-or, test-exact, test-silent, first-fine, first-silent, first-append, or-left, or-right, or-says, says-last}
+use Rattle.chain.specs.Record.{emptyChain, answered, answered-refused, answered-fine}
 use Rattle.chain.specs.Tests.{outside, Out, In, outside-true, outside-false, or-true, or-false, and-true, sum-iff, below-true, below-false, differ-true, differ-false}
 use Rattle.chain.specs.Checks.{countCheck, count-silent, rangeCheck, orderCheck, Table, Tables}
 use Rattle.chain.specs.declared.Refusal.{Refusal}
@@ -64,7 +65,7 @@ misplaced len at end = not (eqb (at % 4) 0) || (ltb at 20 || ltb len end)
 
 -- "or the tables overlap": each begins before the other ends
 abbrev pub overlap : ℕ → ℕ → ℕ → ℕ → Bool
-overlap q qEnd w wEnd = ltb q wEnd && ltb w qEnd
+overlap q qend w wend = ltb q wend && ltb w qend
 
 -- place "8 (queue offset, tested first), 12 (node offset, then overlap)"; the tables stand at q and w
 abbrev pub offsetTests : ℕ → ℕ → ℕ → ℕ → List Refusal
@@ -107,10 +108,10 @@ abbrev pub GoodTable : ℕ → ℕ → ℕ → Type 0
 GoodTable len at end = (at % 4 ≡ 0) × ((20 ≤ at) × (end ≤ len))
 
 -- some byte lies in both tables
-pub record Shared (q qEnd w wEnd : ℕ) : Type 0 where
+pub record Shared (q qend w wend : ℕ) : Type 0 where
   pub byte : ℕ
-  pub in-queues : (q ≤ byte) × (byte < qEnd)
-  pub in-nodes : (w ≤ byte) × (byte < wEnd)
+  pub in-queues : (q ≤ byte) × (byte < qend)
+  pub in-nodes : (w ≤ byte) × (byte < wend)
 
 pub bad-table : (len at end : ℕ) → (misplaced len at end ≡ true) ↔ BadTable len at end
 bad-table len at end = or-true (differ-true (at % 4) 0) (or-true (below-true at 20) (below-true len end))
@@ -119,10 +120,10 @@ pub good-table : (len at end : ℕ) → (misplaced len at end ≡ false) ↔ Goo
 good-table len at end = or-false (differ-false (at % 4) 0) (or-false (below-false at 20) (below-false len end))
 
 -- two tables, neither of them empty, overlap exactly when some byte lies in both
-pub overlap-true : (q qEnd w wEnd : ℕ) → q < qEnd → w < wEnd → (overlap q qEnd w wEnd ≡ true) ↔ Shared q qEnd w wEnd
-overlap-true q qEnd w wEnd hq hw = Iff·trans (and-true (below-true q wEnd) (below-true w qEnd)) (out, λ s. (omega (arith, s .in-queues, s .in-nodes), omega (arith, s .in-queues, s .in-nodes)))
+pub overlap-true : (q qend w wend : ℕ) → q < qend → w < wend → (overlap q qend w wend ≡ true) ↔ Shared q qend w wend
+overlap-true q qend w wend hq hw = Iff·trans (and-true (below-true q wend) (below-true w qend)) (out, λ s. (omega (arith, s .in-queues, s .in-nodes), omega (arith, s .in-queues, s .in-nodes)))
   where
-    out : (q < wEnd) × (w < qEnd) → Shared q qEnd w wEnd
+    out : (q < wend) × (w < qend) → Shared q qend w wend
     out h = record { byte = max q w; in-queues = (omega arith, omega arith); in-nodes = (omega arith, omega arith) }
 
 -- the queue offset's reasons at place 8; else the node offset's at place 12; else, at place 12, a byte in both tables
@@ -187,3 +188,46 @@ placed-tables f p = record {
 pub read-parts : (f : List ℕ) → readRefusal f ≡ orElse (headerRefusal f) (first (rangeCheck (chainOf f) (queuesAt f) (nodesAt f) ∷ orderCheck (chainOf f) (queuesAt f) ∷ []))
 unfolding readRefusal headerRefusal
 read-parts f = first-append (lengthCheck f ∷ countCheck (countOf f) ∷ offsetCheck (length f) (countOf f) (queuesAt f) (nodesAt f) ∷ []) (rangeCheck (chainOf f) (queuesAt f) (nodesAt f) ∷ orderCheck (chainOf f) (queuesAt f) ∷ [])
+
+-- what the code of the reader has loaded: the record, and the two offsets again
+pub record Loaded (f : List ℕ) (c : Chain) (q w : ℕ) : Type 0 where
+  pub record-is : c ≡ chainOf f
+  pub queues-are : q ≡ queuesAt f
+  pub nodes-are : w ≡ nodesAt f
+
+pub loaded : (f : List ℕ) {n y q w : ℕ} {rows : List Queue} {times : List ℕ} → n ≡ countOf f → y ≡ periodOf f → q ≡ queuesAt f → w ≡ nodesAt f → rows ≡ slots (λ i. rowAt f (q + 20 * i)) none 16 n → times ≡ slots (λ i. wordAt f (w + 4 * i)) 0 16 n
+    → record { n = n; period = y; queues = rows; work = times } ≡ chainOf f
+unfolding chainOf
+loaded f a b c d e g =
+    let rs = e ∙ ap₂ (λ (m k : ℕ). slots (λ i. rowAt f (k + 20 * i)) none 16 m) a c in
+    let ts = g ∙ ap₂ (λ (m k : ℕ). slots (λ i. wordAt f (k + 4 * i)) 0 16 m) a d in
+    λ i. record { n = a i; period = b i; queues = rs i; work = ts i }
+
+pub loaded-tables : {f : List ℕ} {c : Chain} {q w : ℕ} → Placed f → Loaded f c q w → Tables (c .n) q w
+unfolding chainOf
+loaded-tables {f} p l = rw (l .record-is, l .queues-are, l .nodes-are) (placed-tables f p)
+
+loaded-rows : {f : List ℕ} {c : Chain} {q w : ℕ} {r : Refusal} → Loaded f c q w → r ≡ first (rangeCheck c q w ∷ orderCheck c q ∷ []) → r ≡ first (rangeCheck (chainOf f) (queuesAt f) (nodesAt f) ∷ orderCheck (chainOf f) (queuesAt f) ∷ [])
+loaded-rows l e = rw (← l .record-is, ← l .queues-are, ← l .nodes-are) e
+
+-- the reader's three ways out, as code has them: the header is refused, the rows are, nothing is
+module _ (f : List ℕ) {h : Refusal} (is : h ≡ headerRefusal f) where
+  pub header-refused : (Silent h → ⊥) → record { number = h .number; place = h .place; chain = emptyChain } ≡ readAnswer f
+  unfolding readAnswer
+  header-refused n = answered-refused (chainOf f) (or-left _ is n ∙ sym (read-parts f)) n
+
+  pub rows-refused : {c : Chain} {q w : ℕ} {r : Refusal} → Silent h → Loaded f c q w → r ≡ first (rangeCheck c q w ∷ orderCheck c q ∷ []) → (Silent r → ⊥) → record { number = r .number; place = r .place; chain = emptyChain } ≡ readAnswer f
+  unfolding readAnswer
+  rows-refused z l e n = answered-refused (chainOf f) (or-right is z (loaded-rows l e) ∙ sym (read-parts f)) n
+
+  pub read-done : {c : Chain} {q w : ℕ} {r : Refusal} → Silent h → Loaded f c q w → r ≡ first (rangeCheck c q w ∷ orderCheck c q ∷ []) → Silent r → record { number = 0; place = 0; chain = c } ≡ readAnswer f
+  unfolding readAnswer
+  read-done z l e k =
+      let rows = loaded-rows l e in
+      let silent = first-fine (rangeCheck (chainOf f) (queuesAt f) (nodesAt f) ∷ orderCheck (chainOf f) (queuesAt f) ∷ []) (ap (λ (x : Refusal). x .number) (sym rows) ∙ k) in
+      ap (λ (c : Chain). record { number = 0; place = 0; chain = c }) (l .record-is) ∙ answered-fine (chainOf f) (or-right is z (sym silent) ∙ sym (read-parts f))
+
+-- check 3 as the header's last, from the words that code has read
+pub offset-last : (f : List ℕ) {r : Refusal} {n q w : ℕ} → r ≡ offsetCheck (length f) n q w → n ≡ countOf f → q ≡ queuesAt f → w ≡ nodesAt f → r ≡ first (offsetCheck (length f) (countOf f) (queuesAt f) (nodesAt f) ∷ [])
+unfolding offsetCheck first
+offset-last f {r} {n} {q} {w} e a b c = rw (← a, ← b, ← c) (e ∙ sym (first-last (offsetTests (length f) n q w)))

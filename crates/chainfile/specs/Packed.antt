@@ -84,6 +84,15 @@ pub write-parts : (c : Chain) (room : ℕ) → writeRefusal c room ≡ orElse (c
 unfolding writeRefusal chainRefusal
 write-parts c room = first-append (countCheck (c .n) ∷ rangeCheck c 20 (20 + 20 * c .n) ∷ orderCheck c 20 ∷ []) (roomCheck (packedLength (c .n)) room ∷ [])
 
+-- the two cases of the room, as code has them, behind a silent record
+pub room-short : (need room : ℕ) → room < need → refused 10 need ≡ first (roomCheck need room ∷ [])
+unfolding first orElse
+room-short need room h = simp (lt-ltb _ _ h)
+
+pub room-enough : (need room : ℕ) → need ≤ room → fine ≡ first (roomCheck need room ∷ [])
+unfolding first orElse
+room-enough need room h = simp (le-ltb _ _ h)
+
 -- how long the tables and the file are
 pub rows-length : (c : Chain) (i : ℕ) → length (rows c i) ≡ 5 * i
 rows-length c i = flat-length (λ j. row (rowOf c j)) 5 (λ j. refl) i
@@ -111,3 +120,12 @@ table-end f i n g h p = let e : n ≡ i = omega arith in rw e p
 pub file-put : {l m o p : List ℕ} {j k r : ℕ} (c : Chain) → Puts l 0 (bytesOf (header (c .n) (c .period))) m j → Puts m j (bytesOf (rows c (c .n))) o k → Puts o k (bytesOf (nodes c (c .n))) p r → Puts l 0 (packed c) p r
 unfolding packed
 file-put c x y z = then-words (header (c .n) (c .period)) (rows c (c .n) ++ nodes c (c .n)) x (then-words (rows c (c .n)) (nodes c (c .n)) y z)
+
+-- room in the lent bytes l for k bytes from `at` on, of a chain of n queues; and for its whole packed file
+pub record TableFits (n : ℕ) (l : List ℕ) (at k : ℕ) : Type 0 where
+  pub few : n ≤ 16
+  pub room : at + k ≤ length l
+
+pub record Fits (c : Chain) (l : List ℕ) : Type 0 where
+  pub few : c .n ≤ 16
+  pub room : packedLength (c .n) ≤ length l

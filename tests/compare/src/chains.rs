@@ -2,7 +2,22 @@
 
 use crate::random::Random;
 use std::ops::RangeInclusive;
-use yardstick::{Chain, Queue, CAPACITY, MAX_QUEUES, TICKS, TOKENS};
+use yardstick::{Chain, Queue, CAPACITY, MAX_QUEUES, RESERVED, TICKS, TOKENS};
+
+/// The numbers of queues that the limits are tried with.
+pub const COUNTS: [usize; 3] = [1, 2, MAX_QUEUES];
+
+/// A threshold and a consume below, at or above it.
+pub const AROUND_THRESHOLD: [[u32; 2]; 8] = [
+    [1, 1],
+    [1, 2],
+    [2, 1],
+    [7, 6],
+    [7, 7],
+    [7, 8],
+    [65_534, 65_535],
+    [65_535, 65_535],
+];
 
 /// The values on both sides of each limit of n, of an offset and of a field, and those at the end
 /// of a word.
@@ -85,6 +100,18 @@ pub fn wide(n: usize) -> Chain {
         chain.work[i] = 200 + row;
     }
     chain
+}
+
+/// A value out of the range of a queue's field, by its place in the row.
+pub fn bad_field(random: &mut Random, field: usize) -> u32 {
+    let ranges = [TOKENS, TOKENS, TOKENS, CAPACITY, RESERVED];
+    outside(random, ranges[field].clone())
+}
+
+/// A threshold and a consume above it, both in range.
+pub fn above_threshold(random: &mut Random) -> [u32; 2] {
+    let threshold = 1 + random.below(65_534) as u32;
+    [threshold, random.pick(&[threshold + 1, 65_535])]
 }
 
 /// A value that is not in a range.

@@ -4,6 +4,7 @@
 use crate::records::Record;
 use crate::tally::Tally;
 use compare::library;
+use compare::packed::{packed_file, packed_form};
 use compare::random::Random;
 use std::mem::size_of;
 use yardstick::{packed_length, Chain, ChainAnswer, LengthAnswer, Queue, MAX_QUEUES};
@@ -11,7 +12,7 @@ use yardstick::{packed_length, Chain, ChainAnswer, LengthAnswer, Queue, MAX_QUEU
 /// The random bytes behind lent memory, and one more than the most before it.
 const MARGIN: usize = 16;
 
-/// The most bytes that are shown of an input.
+/// The most bytes that are shown of an input or of lent memory.
 const SHOWN: usize = 4_100;
 
 /// What the library gave where something else was due.
@@ -191,48 +192,6 @@ fn same_bytes(what: &'static str, library: &[u8], due: &[u8]) -> Result<(), Diff
         library: hex(library),
         due: hex(due),
     })
-}
-
-/// The packed file of a chain whose n is valid.
-fn packed_file(chain: &Chain) -> Vec<u8> {
-    let n = chain.n as usize;
-    let queues: Vec<u8> = chain.queues[..n].iter().flat_map(row_bytes).collect();
-    let nodes: Vec<u8> = chain.work[..n]
-        .iter()
-        .flat_map(|work| work.to_le_bytes())
-        .collect();
-    packed(chain.n, chain.period, &queues, &nodes)
-}
-
-/// The packed form of a valid file: its own tables behind a new header.
-fn packed_form(file: &[u8]) -> Vec<u8> {
-    let word = |at: usize| u32::from_le_bytes([file[at], file[at + 1], file[at + 2], file[at + 3]]);
-    let n = word(0) as usize;
-    let queues = &file[word(8) as usize..][..20 * n];
-    let nodes = &file[word(12) as usize..][..4 * n];
-    packed(word(0), word(4), queues, nodes)
-}
-
-/// The packed file of two tables: n, y, 20, 20+20n, 20+24n, the queue table's bytes, the node
-/// table's bytes.
-fn packed(n: u32, period: u32, queues: &[u8], nodes: &[u8]) -> Vec<u8> {
-    let header = [n, period, 20, 20 + 20 * n, 20 + 24 * n];
-    let mut file: Vec<u8> = header.iter().flat_map(|word| word.to_le_bytes()).collect();
-    file.extend_from_slice(queues);
-    file.extend_from_slice(nodes);
-    file
-}
-
-/// The bytes of a queue row.
-fn row_bytes(queue: &Queue) -> Vec<u8> {
-    let row = [
-        queue.produce,
-        queue.threshold,
-        queue.consume,
-        queue.capacity,
-        queue.reserved,
-    ];
-    row.iter().flat_map(|word| word.to_le_bytes()).collect()
 }
 
 /// A chain whose n is valid, with zeros in its slots past n.

@@ -1,14 +1,12 @@
 //! Chain files to compare on: both sides of every limit, and random ones, valid and damaged.
 
-use compare::chains::{any_count, any_word, outside, valid, wide, LIMITS};
-use compare::random::Random;
-use yardstick::{
-    packed_length, Chain, CAPACITY, HEADER, MAX_FILE, MAX_QUEUES, NODE_ROW, QUEUE_ROW, RESERVED,
-    TICKS, TOKENS,
+use compare::chains::{
+    above_threshold, any_count, any_word, bad_field, outside, valid, wide, AROUND_THRESHOLD,
+    COUNTS, LIMITS,
 };
-
-/// The numbers of queues that the limits are tried with.
-const COUNTS: [usize; 3] = [1, 2, MAX_QUEUES];
+use compare::packed::row_words;
+use compare::random::Random;
+use yardstick::{packed_length, Chain, HEADER, MAX_FILE, MAX_QUEUES, NODE_ROW, QUEUE_ROW, TICKS};
 
 /// A file and where its tables are.
 struct Sample {
@@ -29,25 +27,10 @@ impl Sample {
             queues,
             nodes,
         };
-        sample.put_all(
-            0,
-            &[
-                chain.n,
-                chain.period,
-                queues as u32,
-                nodes as u32,
-                length as u32,
-            ],
-        );
+        sample.put_all(0, &[chain.n, chain.period, queues as u32, nodes as u32]);
+        sample.tell_length();
         for (i, queue) in chain.queues[..n].iter().enumerate() {
-            let row = [
-                queue.produce,
-                queue.threshold,
-                queue.consume,
-                queue.capacity,
-                queue.reserved,
-            ];
-            sample.put_all(queues + QUEUE_ROW * i, &row);
+            sample.put_all(queues + QUEUE_ROW * i, &row_words(queue));
         }
         sample.put_all(nodes, &chain.work[..n]);
         sample
@@ -153,18 +136,31 @@ fn any_gap(random: &mut Random) -> usize {
 /// A fault that is placed on purpose.
 #[derive(Clone, Copy)]
 enum Fault {
+    /// The file ends early and its total word stays.
     Cut,
+    /// The file ends early and its total word says so.
     CutAndTold,
+    /// The file has bytes behind its end and its total word stays.
     Longer,
+    /// The file is longer than any may be and its total word says so.
     TooLong,
+    /// The total word is not the length.
     Total,
+    /// n is 0 or above 16.
     Count,
+    /// The queue table's offset is bad.
     QueueTable,
+    /// The node table's offset is bad.
     NodeTable,
+    /// The node table shares bytes with the queue table.
     Overlap,
+    /// The period is out of range.
     Period,
+    /// A field of a queue row is out of range.
     Field,
+    /// An execution time is out of range.
     Work,
+    /// A consume is above its threshold.
     Consume,
 }
 
@@ -233,10 +229,7 @@ impl Fault {
             }
             Fault::Field => {
                 let field = random.below(5);
-                let word = outside(
-                    random,
-                    [TOKENS, TOKENS, TOKENS, CAPACITY, RESERVED][field].clone(),
-                );
+                let word = bad_field(random, field);
                 sample.put(sample.field(row, field), word);
             }
             Fault::Work => {
@@ -244,9 +237,8 @@ impl Fault {
                 sample.put(sample.work(row), work);
             }
             Fault::Consume => {
-                let threshold = 1 + random.below(65_534) as u32;
-                let consume = random.pick(&[threshold + 1, 65_535]);
-                sample.put_all(sample.field(row, 1), &[threshold, consume]);
+                let words = above_threshold(random);
+                sample.put_all(sample.field(row, 1), &words);
             }
         }
     }
@@ -415,8 +407,8 @@ fn overlaps(random: &mut Random, files: &mut Vec<Vec<u8>>) {
     }
 }
 
-/// Every limit in every word that has a range, alone and with a consume above its threshold before
-/// it.
+/// Every limit in every word that has a range, alone and with a consume above its threshold in the
+/// first row.
 fn fields(random: &mut Random, files: &mut Vec<Vec<u8>>) {
     for n in COUNTS {
         for at in 0..1 + 6 * n {
@@ -435,18 +427,9 @@ fn fields(random: &mut Random, files: &mut Vec<Vec<u8>>) {
 fn consumption(random: &mut Random, files: &mut Vec<Vec<u8>>) {
     for n in COUNTS {
         for row in 0..n {
-            for (threshold, consume) in [
-                (1, 1),
-                (1, 2),
-                (2, 1),
-                (7, 6),
-                (7, 7),
-                (7, 8),
-                (65_534, 65_535),
-                (65_535, 65_535),
-            ] {
+            for words in AROUND_THRESHOLD {
                 let mut sample = Sample::scattered(random, &wide(n));
-                sample.put_all(sample.field(row, 1), &[threshold, consume]);
+                sample.put_all(sample.field(row, 1), &words);
                 files.push(sample.bytes.clone());
                 sample.put_all(sample.field(n - 1, 1), &[1, 2]);
                 files.push(sample.bytes);

@@ -1,15 +1,15 @@
 //! Records to compare the writer on, each with the room that is lent: both sides of every limit,
 //! and random ones, valid and damaged.
 
-use compare::chains::{any_count, any_word, outside, valid, wide, LIMITS};
+use compare::chains::{
+    above_threshold, any_count, any_word, bad_field, outside, valid, wide, AROUND_THRESHOLD,
+    COUNTS, LIMITS,
+};
 use compare::random::Random;
-use yardstick::{packed_length, Chain, CAPACITY, MAX_FILE, MAX_QUEUES, RESERVED, TICKS, TOKENS};
+use yardstick::{packed_length, Chain, MAX_FILE, MAX_QUEUES, TICKS};
 
 /// The words of a record, slots past n included.
 const WORDS: usize = 2 + 6 * MAX_QUEUES;
-
-/// The numbers of queues that the limits are tried with.
-const COUNTS: [usize; 3] = [1, 2, MAX_QUEUES];
 
 /// A record and the bytes that are lent for its file.
 pub struct Record {
@@ -39,11 +39,9 @@ fn field(chain: &mut Chain, row: usize, field: usize) -> &mut u32 {
     }
 }
 
-/// Makes the consume of a row pass its threshold.
-fn raise_consume(random: &mut Random, chain: &mut Chain, row: usize) {
-    let threshold = 1 + random.below(65_534) as u32;
-    chain.queues[row].threshold = threshold;
-    chain.queues[row].consume = random.pick(&[threshold + 1, 65_535]);
+/// Puts a threshold and a consume into a row.
+fn put_threshold(chain: &mut Chain, row: usize, words: [u32; 2]) {
+    [chain.queues[row].threshold, chain.queues[row].consume] = words;
 }
 
 /// A chain with random words in its slots past n.
@@ -102,13 +100,10 @@ fn place_fault(random: &mut Random, chain: &mut Chain, n: usize) {
         1 => chain.period = outside(random, TICKS),
         2..=4 => {
             let at = random.below(5);
-            *field(chain, row, at) = outside(
-                random,
-                [TOKENS, TOKENS, TOKENS, CAPACITY, RESERVED][at].clone(),
-            );
+            *field(chain, row, at) = bad_field(random, at);
         }
         5 => chain.work[row] = outside(random, TICKS),
-        _ => raise_consume(random, chain, row),
+        _ => put_threshold(chain, row, above_threshold(random)),
     }
 }
 
@@ -169,7 +164,7 @@ fn fields(random: &mut Random, records: &mut Vec<Record>) {
                 let mut chain = littered(random, wide(n));
                 *word(&mut chain, index) = value;
                 let mut both = chain;
-                raise_consume(random, &mut both, 0);
+                put_threshold(&mut both, 0, above_threshold(random));
                 for room in [packed_length(n), packed_length(n) - 1] {
                     records.push(Record { chain, room });
                     records.push(Record { chain: both, room });
@@ -183,21 +178,11 @@ fn fields(random: &mut Random, records: &mut Vec<Record>) {
 fn consumption(random: &mut Random, records: &mut Vec<Record>) {
     for n in COUNTS {
         for row in 0..n {
-            for (threshold, consume) in [
-                (1, 1),
-                (1, 2),
-                (2, 1),
-                (7, 6),
-                (7, 7),
-                (7, 8),
-                (65_534, 65_535),
-                (65_535, 65_535),
-            ] {
+            for words in AROUND_THRESHOLD {
                 let mut chain = littered(random, wide(n));
-                chain.queues[row].threshold = threshold;
-                chain.queues[row].consume = consume;
+                put_threshold(&mut chain, row, words);
                 let mut both = chain;
-                raise_consume(random, &mut both, n - 1);
+                put_threshold(&mut both, n - 1, above_threshold(random));
                 for room in [packed_length(n), packed_length(n) - 1] {
                     records.push(Record { chain, room });
                     records.push(Record { chain: both, room });
