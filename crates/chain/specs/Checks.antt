@@ -5,7 +5,9 @@
 --   countCheck n               2: n is 0 or above 16
 --   rangeCheck c q w           4: a field out of range, the first in that order
 --   orderCheck c q             5: c above τ, the first such row
---   chainRefusal c             what a chain handed in as a record is refused with: 2, 4, 5, places as in its packed file
+--   recordRange c, recordOrder c
+--                              4 and 5 of a record, with places as in its packed file
+--   chainRefusal c             what a chain handed in as a record is refused with: 2, 4, 5
 --   FirstOut, FirstOver        01's conditions of 4 and 5, in words
 --   count-exact, range-exact, order-exact
 --                              each check speaks exactly under its condition
@@ -69,10 +71,17 @@ unfoldable pub orderCheck : Chain → ℕ → Refusal
 unfolding first tab
 orderCheck c q = first (tab (c .n) (λ i. overdrawn (rowOf c i) (q + 20 * i)))
 
--- "a chain handed in as a record passes checks 2, 4, 5 again, with places as in its packed file"
+-- 4 and 5 of a record, "with places as in its packed file": the queue table at 20, the node table at 20+20n
+abbrev pub recordRange : Chain → Refusal
+recordRange c = rangeCheck c 20 (20 + 20 * c .n)
+
+abbrev pub recordOrder : Chain → Refusal
+recordOrder c = orderCheck c 20
+
+-- "a chain handed in as a record passes checks 2, 4, 5 again"
 unfoldable pub chainRefusal : Chain → Refusal
 unfolding first rangeCheck orderCheck
-chainRefusal c = first (countCheck (c .n) ∷ rangeCheck c 20 (20 + 20 * c .n) ∷ orderCheck c 20 ∷ [])
+chainRefusal c = first (countCheck (c .n) ∷ recordRange c ∷ recordOrder c ∷ [])
 
 pub count-exact : (L n : ℕ) → (countCheck n ≡ refused 2 L) ↔ (Out 1 16 n × (L ≡ 0))
 count-exact L n = Iff·trans (test-exact 2 L 0 (λ e. omega arith) (outside 1 16 n)) (Iff·and (outside-true 1 16 n) Iff·rfl)
@@ -284,7 +293,7 @@ sound-is c q w = (out, back)
 
 pub sound : (c : Chain) → Silent (chainRefusal c) ↔ Sound c
 unfolding chainRefusal
-sound c = Iff·trans (first-silent (countCheck (c .n) ∷ rangeCheck c 20 (20 + 20 * c .n) ∷ orderCheck c 20 ∷ [])) (sound-is c 20 (20 + 20 * c .n))
+sound c = Iff·trans (first-silent (countCheck (c .n) ∷ recordRange c ∷ recordOrder c ∷ [])) (sound-is c 20 (20 + 20 * c .n))
 
 -- the same of an answer that code was given
 pub sound-known : {r : Refusal} (c : Chain) → r ≡ chainRefusal c → Silent r → Sound c

@@ -16,7 +16,7 @@
 --   first-exact        a list says N at L exactly when the checks before the one of that number are silent and it says so
 --   scan-..            a loop over the checks g 0, g 1, .. that stops at the first that speaks
 use mathlib.Core.Path.{_≡_, refl, sym, ap, _∙_}
-use mathlib.Core.Bool.{Bool, true, false, cond, true≢false}
+use mathlib.Core.Bool.{Bool, true, false, cond, not, true≢false}
 use mathlib.Core.Logic.{_↔_, _≢_, _⊎_, inl, inr, ⊎-elim, Iff·trans, Iff·and, Iff·rfl, by-cases}
 use mathlib.Core.List.{List, [], _∷_, _++_, map, map-append}
 use Prim.Native.Nat.{ℕ, zero, suc, _+_, _*_, _≤_, _<_, zero-le}
@@ -24,8 +24,8 @@ use native.Mathlib.Nat.{not-suc-le-zero, eq-or-lt-of-le}
 use native.Mathlib.Decide.{ℕ-discrete}
 use native.Mathlib.Omega.{arith}
 use native.Mathlib.Numerals.{add-one}
-use lib.Dec.{eqb}
-use borrow.Author.Tests.{eq-eqb, ne-eqb, eqb-true, eqb-false}
+use lib.Dec.{T, T-not, eqb}
+use borrow.Author.Tests.{eq-eqb, ne-eqb}
 use lib.ListN.{length, getD}
 use Rattle.words.specs.Flat.{flat}
 use Rattle.words.specs.Table.{tab, tab-last, tab-more, length-tab, tab-at}
@@ -216,8 +216,10 @@ unfolding first tab
 only-tab N g h zero = only-fine N
 only-tab N g h (suc k) = only-or (g zero) (first (tab k (λ i. g (suc i)))) (h zero) (only-tab N (λ i. g (suc i)) (λ i. h (suc i)) k)
 
-pub other : {N M : ℕ} (r : Refusal) → Only M r → N ≢ 0 → M ≢ N → r .number ≢ N
-other r only some apart e = apart (sym (only (λ z. some (sym e ∙ z))) ∙ e)
+-- a check whose only number is M does not speak with another number N
+pub other : {M N k : ℕ} → ((k ≡ 0 → ⊥) → k ≡ M) → T (not (eqb N 0)) → T (not (eqb M N)) → k ≢ N
+other {M} {N} only some apart e =
+    T-not (eqb M N) apart (rw (eq-eqb M N (sym (only (λ z. T-not (eqb N 0) some (rw (eq-eqb N 0 (sym e ∙ z)) tt))) ∙ e)) tt)
 
 module _ (N : ℕ) (some : N ≢ 0) where
   first-other : (rs : List Refusal) → Others N rs → first rs .number ≢ N

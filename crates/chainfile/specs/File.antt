@@ -4,6 +4,8 @@
 --   chainOf f                  the chain that the words of f say, slots past n zero
 --   lengthCheck f              1: the length, or the total word
 --   offsetCheck len n q w      3: where the tables stand
+--   fileOffsets f, fileRange f, fileOrder f
+--                              3, 4 and 5 of the file f
 --   readRefusal f, readAnswer f
 --                              what the reader refuses f with, and its whole answer
 --   BadTable, Shared, Misplaced
@@ -76,10 +78,20 @@ unfoldable pub offsetCheck : ℕ → ℕ → ℕ → ℕ → Refusal
 unfolding first
 offsetCheck len n q w = first (offsetTests len n q w)
 
+-- 3, 4 and 5 of a file, with places in the caller's own bytes
+abbrev pub fileOffsets : List ℕ → Refusal
+fileOffsets f = offsetCheck (length f) (countOf f) (queuesAt f) (nodesAt f)
+
+abbrev pub fileRange : List ℕ → Refusal
+fileRange f = rangeCheck (chainOf f) (queuesAt f) (nodesAt f)
+
+abbrev pub fileOrder : List ℕ → Refusal
+fileOrder f = orderCheck (chainOf f) (queuesAt f)
+
 -- "the reader checks 1 to 5"
 unfoldable pub readRefusal : List ℕ → Refusal
 unfolding first offsetCheck chainOf rangeCheck orderCheck
-readRefusal f = first (lengthCheck f ∷ countCheck (countOf f) ∷ offsetCheck (length f) (countOf f) (queuesAt f) (nodesAt f) ∷ rangeCheck (chainOf f) (queuesAt f) (nodesAt f) ∷ orderCheck (chainOf f) (queuesAt f) ∷ [])
+readRefusal f = first (lengthCheck f ∷ countCheck (countOf f) ∷ fileOffsets f ∷ fileRange f ∷ fileOrder f ∷ [])
 
 -- what the reader answers to any bytes
 unfoldable pub readAnswer : List ℕ → ChainAnswer
@@ -155,7 +167,7 @@ offset-only len n q w =
 -- the checks of a file before its rows are looked at
 unfoldable pub headerRefusal : List ℕ → Refusal
 unfolding first offsetCheck
-headerRefusal f = first (lengthCheck f ∷ countCheck (countOf f) ∷ offsetCheck (length f) (countOf f) (queuesAt f) (nodesAt f) ∷ [])
+headerRefusal f = first (lengthCheck f ∷ countCheck (countOf f) ∷ fileOffsets f ∷ [])
 
 -- what they leave to be known: the count, the length, the total word and where the tables stand
 pub record Placed (f : List ℕ) : Type 0 where
@@ -169,8 +181,8 @@ pub placed : {r : Refusal} (f : List ℕ) → r ≡ headerRefusal f → Silent r
 unfolding headerRefusal Silents offsetCheck
 placed f e z = record { count = count-silent (countOf f) .0 (h .1 .0); long = length-silent f .0 (h .0) .0; total = length-silent f .0 (h .0) .1; queues = good 8 (queuesAt f) (queuesAt f + 20 * countOf f) (o .0); nodes = good 12 (nodesAt f) (nodesAt f + 4 * countOf f) (o .1 .0) }
   where
-    h : Silents (lengthCheck f ∷ countCheck (countOf f) ∷ offsetCheck (length f) (countOf f) (queuesAt f) (nodesAt f) ∷ [])
-    h = first-silent (lengthCheck f ∷ countCheck (countOf f) ∷ offsetCheck (length f) (countOf f) (queuesAt f) (nodesAt f) ∷ []) .0 (ap (λ (x : Refusal). x .number) (sym e) ∙ z)
+    h : Silents (lengthCheck f ∷ countCheck (countOf f) ∷ fileOffsets f ∷ [])
+    h = first-silent (lengthCheck f ∷ countCheck (countOf f) ∷ fileOffsets f ∷ []) .0 (ap (λ (x : Refusal). x .number) (sym e) ∙ z)
 
     o : Silents (offsetTests (length f) (countOf f) (queuesAt f) (nodesAt f))
     o = first-silent (offsetTests (length f) (countOf f) (queuesAt f) (nodesAt f)) .0 (h .1 .1 .0)
@@ -185,9 +197,9 @@ placed-tables f p = record {
 }
 
 -- the whole list of the reader's checks is the header's, then the rows'
-pub read-parts : (f : List ℕ) → readRefusal f ≡ orElse (headerRefusal f) (first (rangeCheck (chainOf f) (queuesAt f) (nodesAt f) ∷ orderCheck (chainOf f) (queuesAt f) ∷ []))
+pub read-parts : (f : List ℕ) → readRefusal f ≡ orElse (headerRefusal f) (first (fileRange f ∷ fileOrder f ∷ []))
 unfolding readRefusal headerRefusal
-read-parts f = first-append (lengthCheck f ∷ countCheck (countOf f) ∷ offsetCheck (length f) (countOf f) (queuesAt f) (nodesAt f) ∷ []) (rangeCheck (chainOf f) (queuesAt f) (nodesAt f) ∷ orderCheck (chainOf f) (queuesAt f) ∷ [])
+read-parts f = first-append (lengthCheck f ∷ countCheck (countOf f) ∷ fileOffsets f ∷ []) (fileRange f ∷ fileOrder f ∷ [])
 
 -- what the code of the reader has loaded: the record, and the two offsets again
 pub record Loaded (f : List ℕ) (c : Chain) (q w : ℕ) : Type 0 where
@@ -207,7 +219,7 @@ pub loaded-tables : {f : List ℕ} {c : Chain} {q w : ℕ} → Placed f → Load
 unfolding chainOf
 loaded-tables {f} p l = rw (l .record-is, l .queues-are, l .nodes-are) (placed-tables f p)
 
-loaded-rows : {f : List ℕ} {c : Chain} {q w : ℕ} {r : Refusal} → Loaded f c q w → r ≡ first (rangeCheck c q w ∷ orderCheck c q ∷ []) → r ≡ first (rangeCheck (chainOf f) (queuesAt f) (nodesAt f) ∷ orderCheck (chainOf f) (queuesAt f) ∷ [])
+loaded-rows : {f : List ℕ} {c : Chain} {q w : ℕ} {r : Refusal} → Loaded f c q w → r ≡ first (rangeCheck c q w ∷ orderCheck c q ∷ []) → r ≡ first (fileRange f ∷ fileOrder f ∷ [])
 loaded-rows l e = rw (← l .record-is, ← l .queues-are, ← l .nodes-are) e
 
 -- the reader's three ways out, as code has them: the header is refused, the rows are, nothing is
@@ -224,10 +236,10 @@ module _ (f : List ℕ) {h : Refusal} (is : h ≡ headerRefusal f) where
   unfolding readAnswer
   read-done z l e k =
       let rows = loaded-rows l e in
-      let silent = first-fine (rangeCheck (chainOf f) (queuesAt f) (nodesAt f) ∷ orderCheck (chainOf f) (queuesAt f) ∷ []) (ap (λ (x : Refusal). x .number) (sym rows) ∙ k) in
+      let silent = first-fine (fileRange f ∷ fileOrder f ∷ []) (ap (λ (x : Refusal). x .number) (sym rows) ∙ k) in
       ap (λ (c : Chain). record { number = 0; place = 0; chain = c }) (l .record-is) ∙ answered-fine (chainOf f) (or-right is z (sym silent) ∙ sym (read-parts f))
 
 -- check 3 as the header's last, from the words that code has read
-pub offset-last : (f : List ℕ) {r : Refusal} {n q w : ℕ} → r ≡ offsetCheck (length f) n q w → n ≡ countOf f → q ≡ queuesAt f → w ≡ nodesAt f → r ≡ first (offsetCheck (length f) (countOf f) (queuesAt f) (nodesAt f) ∷ [])
+pub offset-last : (f : List ℕ) {r : Refusal} {n q w : ℕ} → r ≡ offsetCheck (length f) n q w → n ≡ countOf f → q ≡ queuesAt f → w ≡ nodesAt f → r ≡ first (fileOffsets f ∷ [])
 unfolding offsetCheck first
 offset-last f {r} {n} {q} {w} e a b c = rw (← a, ← b, ← c) (e ∙ sym (first-last (offsetTests (length f) n q w)))

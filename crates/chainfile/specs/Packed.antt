@@ -24,7 +24,7 @@ use Rattle.words.specs.Rows.{row}
 use Rattle.chain.specs.Tests.{below-true}
 use Rattle.chain.specs.Refusals.{refused, fine, test, first, orElse, Silent, Only, only-test, test-exact, first-append}
 use Rattle.chain.specs.Record.{rowOf, workOf}
-use Rattle.chain.specs.Checks.{countCheck, rangeCheck, orderCheck, chainRefusal}
+use Rattle.chain.specs.Checks.{countCheck, rangeCheck, orderCheck, recordRange, recordOrder, chainRefusal}
 use Rattle.chain.specs.declared.Refusal.{Refusal}
 use Rattle.chain.specs.declared.Chain.{Chain}
 use Rattle.chainfile.specs.declared.LengthAnswer.{LengthAnswer}
@@ -60,7 +60,7 @@ roomCheck need room = test 10 need (ltb room need)
 -- "the writer checks 2, 4, 5, 10"
 unfoldable pub writeRefusal : Chain → ℕ → Refusal
 unfolding first rangeCheck orderCheck
-writeRefusal c room = first (countCheck (c .n) ∷ rangeCheck c 20 (20 + 20 * c .n) ∷ orderCheck c 20 ∷ roomCheck (packedLength (c .n)) room ∷ [])
+writeRefusal c room = first (countCheck (c .n) ∷ recordRange c ∷ recordOrder c ∷ roomCheck (packedLength (c .n)) room ∷ [])
 
 -- a call that writes: the answer is the refusal, or the text's length; the lent bytes o become p,
 -- the text first and every byte past it as it was, or all of them as they were where it refuses
@@ -82,7 +82,7 @@ room-only need room = only-test 10 need (ltb room need)
 
 pub write-parts : (c : Chain) (room : ℕ) → writeRefusal c room ≡ orElse (chainRefusal c) (first (roomCheck (packedLength (c .n)) room ∷ []))
 unfolding writeRefusal chainRefusal
-write-parts c room = first-append (countCheck (c .n) ∷ rangeCheck c 20 (20 + 20 * c .n) ∷ orderCheck c 20 ∷ []) (roomCheck (packedLength (c .n)) room ∷ [])
+write-parts c room = first-append (countCheck (c .n) ∷ recordRange c ∷ recordOrder c ∷ []) (roomCheck (packedLength (c .n)) room ∷ [])
 
 -- the two cases of the room, as code has them, behind a silent record
 pub room-short : (need room : ℕ) → room < need → refused 10 need ≡ first (roomCheck need room ∷ [])

@@ -6,6 +6,7 @@ use crate::tally::Tally;
 use compare::library;
 use compare::packed::{packed_file, packed_form};
 use compare::random::Random;
+use std::fmt;
 use std::mem::size_of;
 use yardstick::{packed_length, Chain, ChainAnswer, LengthAnswer, Queue, MAX_QUEUES};
 
@@ -15,11 +16,21 @@ const MARGIN: usize = 16;
 /// The most bytes that are shown of an input or of lent memory.
 const SHOWN: usize = 4_100;
 
-/// What the library gave where something else was due.
+/// What the library gave where something else was due, and how such bytes are shown.
 pub struct Difference {
-    pub what: &'static str,
-    pub library: String,
-    pub due: String,
+    what: &'static str,
+    library: Vec<u8>,
+    due: Vec<u8>,
+    shown: fn(&[u8]) -> String,
+}
+
+impl fmt::Display for Difference {
+    /// Three lines: what differs, the library's bytes, the bytes that were due.
+    fn fmt(&self, lines: &mut fmt::Formatter) -> fmt::Result {
+        writeln!(lines, "  {} differs", self.what)?;
+        writeln!(lines, "  library: {}", (self.shown)(&self.library))?;
+        write!(lines, "  due:     {}", (self.shown)(&self.due))
+    }
 }
 
 /// A struct without padding, so that its bytes are its fields.
@@ -172,25 +183,29 @@ fn read_as(file: &[u8], chain: &Chain) -> Result<(), Difference> {
 
 /// Whether two answers have the same bytes.
 fn same_answer<T: Plain>(what: &'static str, library: &T, due: &T) -> Result<(), Difference> {
-    if library.bytes() == due.bytes() {
-        return Ok(());
-    }
-    Err(Difference {
-        what,
-        library: decimal(library.bytes()),
-        due: decimal(due.bytes()),
-    })
+    same(what, library.bytes(), due.bytes(), decimal)
+}
+
+/// Whether memory has the bytes that it should have.
+fn same_bytes(what: &'static str, library: &[u8], due: &[u8]) -> Result<(), Difference> {
+    same(what, library, due, hex)
 }
 
 /// Whether bytes are the same.
-fn same_bytes(what: &'static str, library: &[u8], due: &[u8]) -> Result<(), Difference> {
+fn same(
+    what: &'static str,
+    library: &[u8],
+    due: &[u8],
+    shown: fn(&[u8]) -> String,
+) -> Result<(), Difference> {
     if library == due {
         return Ok(());
     }
     Err(Difference {
         what,
-        library: hex(library),
-        due: hex(due),
+        library: library.to_vec(),
+        due: due.to_vec(),
+        shown,
     })
 }
 

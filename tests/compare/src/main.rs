@@ -140,9 +140,7 @@ impl Run {
         self.failed += 1;
         if self.failed <= SHOWN {
             println!("failed: {}", input());
-            println!("  {} differs", difference.what);
-            println!("  library: {}", difference.library);
-            println!("  due:     {}", difference.due);
+            println!("{difference}");
         }
     }
 

@@ -1,0 +1,37 @@
+// Ardenquill as its users see it: every public call, for Rattle under its own name and for C as in include/ardenquill.h.
+// No call has a `requires`: each takes any bytes, record or number and answers.
+ghost use mathlib.Core.Path.{_≡_};
+ghost use lib.ListN.{length};
+ghost use Rattle.ardenquill.specs.Files.{readAnswer, packed, writeRefusal, Output};
+ghost use Rattle.ardenquill.specs.Chains.{factoryAnswer};
+pub use chain::Queue;
+pub use chain::Chain;
+pub use chain::ChainAnswer;
+pub use chain::factory;
+pub use chainfile::LengthAnswer;
+pub use chainfile::read;
+pub use chainfile::write;
+
+// The chain of a file, or the first of 1 to 5 that refuses it.
+#[no_mangle]
+pub extern "C" fn ardenquill_read(file: &[u8]) -> ChainAnswer
+    ensures { λ r. ⌜ r ≡ readAnswer (now (file .entry)) ⌝ }
+{
+    read(file)
+}
+
+// The packed file of a chain at the front of the lent bytes, or the first of 2, 4, 5 and 10 that refuses it.
+#[no_mangle]
+pub extern "C" fn ardenquill_write(chain: Chain, out: &mut [u8]) -> LengthAnswer
+    ensures { λ r. ⌜ Output (writeRefusal chain (length (now (out .entry)))) (packed chain) (now (out .entry)) (now (out .exit)) r ⌝ }
+{
+    write(chain, out)
+}
+
+// The factory chain of a number, or 14.
+#[no_mangle]
+pub extern "C" fn ardenquill_factory(number: u32) -> ChainAnswer
+    ensures { λ r. ⌜ r ≡ factoryAnswer number ⌝ }
+{
+    factory(number)
+}

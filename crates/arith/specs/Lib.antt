@@ -1,0 +1,5 @@
+pub mod Division
+pub mod Gcd
+pub mod Bezout
+pub mod Width
+pub mod Figures
