@@ -7,16 +7,16 @@
 --   Silent r, Silents rs
 --                      a check, and each check of a list, says nothing
 --   Only N r           a check speaks with no number but N
---   Others N rs        no check of the list speaks with number N
+--   Numbered Ns rs     each check of the list speaks with no number but its own
 --   First rs N L       the first check of the list that speaks says N at L
 --   or-left, or-right  the two cases of orElse
 --   first-fine         a silent list says fine
 --   first-append       a list, then the next one
 --   first-is           first rs is refused N L exactly when First rs N L
---   first-exact        a list says N at L exactly when the checks before the one of that number are silent and it says so
+--   exact-at           a list says the number of its check k at L exactly when the checks before it are silent and it says so
 --   scan-..            a loop over the checks g 0, g 1, .. that stops at the first that speaks
 use mathlib.Core.Path.{_≡_, refl, sym, ap, _∙_}
-use mathlib.Core.Bool.{Bool, true, false, cond, not, true≢false}
+use mathlib.Core.Bool.{Bool, true, false, cond, not, _&&_, true≢false}
 use mathlib.Core.Logic.{_↔_, _≢_, _⊎_, inl, inr, ⊎-elim, Iff·trans, Iff·and, Iff·rfl, by-cases}
 use mathlib.Core.List.{List, [], _∷_, _++_, map, map-append}
 use Prim.Native.Nat.{ℕ, zero, suc, _+_, _*_, _≤_, _<_, zero-le}
@@ -26,7 +26,7 @@ use native.Mathlib.Omega.{arith}
 use native.Mathlib.Numerals.{add-one}
 use lib.Dec.{T, T-not, eqb}
 use borrow.Author.Tests.{eq-eqb, ne-eqb}
-use lib.ListN.{length, getD}
+use lib.ListN.{length, getD, take}
 use Rattle.words.specs.Flat.{flat}
 use Rattle.words.specs.Table.{tab, tab-last, tab-more, length-tab, tab-at}
 use Rattle.chain.specs.declared.Refusal.{Refusal}
@@ -189,11 +189,6 @@ test-alone N L some false = sym (or-silent fine fine refl)
 abbrev pub Only : ℕ → Refusal → Type 0
 Only N r = (Silent r → ⊥) → r .number ≡ N
 
--- no check of the list speaks with number N
-unfoldable pub Others : ℕ → List Refusal → Type 0
-Others N [] = Unit
-Others N (r ∷ rs) = (r .number ≢ N) × Others N rs
-
 pub only-test : (N L : ℕ) (wrong : Bool) → Only N (test N L wrong)
 only-test N L true n = refl
 only-test N L false n = absurd (n refl)
@@ -216,34 +211,78 @@ unfolding first tab
 only-tab N g h zero = only-fine N
 only-tab N g h (suc k) = only-or (g zero) (first (tab k (λ i. g (suc i)))) (h zero) (only-tab N (λ i. g (suc i)) (λ i. h (suc i)) k)
 
--- a check whose only number is M does not speak with another number N
-pub other : {M N k : ℕ} → ((k ≡ 0 → ⊥) → k ≡ M) → T (not (eqb N 0)) → T (not (eqb M N)) → k ≢ N
-other {M} {N} only some apart e =
-    T-not (eqb M N) apart (rw (eq-eqb M N (sym (only (λ z. T-not (eqb N 0) some (rw (eq-eqb N 0 (sym e ∙ z)) tt))) ∙ e)) tt)
+-- each check of a list speaks with no number but its own
+unfoldable pub Numbered : List ℕ → List Refusal → Type 0
+Numbered [] [] = Unit
+Numbered [] (r ∷ rs) = ⊥
+Numbered (N ∷ Ns) [] = ⊥
+Numbered (N ∷ Ns) (r ∷ rs) = Only N r × Numbered Ns rs
 
-module _ (N : ℕ) (some : N ≢ 0) where
-  first-other : (rs : List Refusal) → Others N rs → first rs .number ≢ N
-  unfolding first Others
-  first-other [] o e = some (sym e)
-  first-other (r ∷ rs) o e = speaks? r
-      (λ z. first-other rs (o .1) (sym (number-of (or-silent r (first rs) z)) ∙ e))
-      (λ n. o .0 (sym (number-of (or-speaks r (first rs) n)) ∙ e))
+-- N is none of the numbers
+abbrev pub absent : ℕ → List ℕ → Bool
+absent N [] = true
+absent N (M ∷ Ms) = not (eqb M N) && absent N Ms
 
-  -- a list says N at L exactly when the checks before the one of that number are silent and that one says so
-  pub first-exact : (L : ℕ) (a : List Refusal) (r : Refusal) (b : List Refusal) → Others N a → Others N b → (first (a ++ (r ∷ b)) ≡ refused N L) ↔ (Silents a × (r ≡ refused N L))
-  unfolding first Silents Others
-  first-exact L [] r b oa ob = (λ e. (tt, there e), λ h. or-speaks r (first b) (says-some N L some (h .1)) ∙ h .1)
-    where
-      there : orElse r (first b) ≡ refused N L → r ≡ refused N L
-      there e = speaks? r
-          (λ z. absurd (first-other b ob (number-of (sym (or-silent r (first b) z) ∙ e))))
-          (λ n. sym (or-speaks r (first b) n) ∙ e)
-  first-exact L (x ∷ a) r b oa ob = (λ e. there e (first-exact L a r b (oa .1) ob .0), λ h. or-silent x _ (h .0 .0) ∙ first-exact L a r b (oa .1) ob .1 (h .0 .1, h .1))
-    where
-      there : orElse x (first (a ++ (r ∷ b))) ≡ refused N L → (first (a ++ (r ∷ b)) ≡ refused N L → Silents a × (r ≡ refused N L)) → (Silent x × Silents a) × (r ≡ refused N L)
-      there e ih = speaks? x
-          (λ z. let h = ih (sym (or-silent x _ z) ∙ e) in ((z, h .0), h .1))
-          (λ n. absurd (oa .0 (number-of (sym (or-speaks x _ n) ∙ e))))
+-- none of the numbers is 0, and none stands twice
+abbrev pub distinct : List ℕ → Bool
+distinct [] = true
+distinct (N ∷ Ns) = absent N (0 ∷ Ns) && distinct Ns
+
+both : (a b : Bool) → T (a && b) → T a × T b
+both true b h = (tt, h)
+both false b h = absurd h
+
+unlike : (M N : ℕ) → T (not (eqb M N)) → M ≢ N
+unlike M N h e = T-not (eqb M N) h (rw (eq-eqb M N e) tt)
+
+absent-at : (N : ℕ) (Ns : List ℕ) → T (absent N Ns) → (k : ℕ) → k < length Ns → getD Ns k 0 ≢ N
+absent-at N [] h k l = absurd (not-suc-le-zero l)
+absent-at N (M ∷ Ms) h zero l = unlike M N (both (not (eqb M N)) (absent N Ms) h .0)
+absent-at N (M ∷ Ms) h (suc k) l = absent-at N Ms (both (not (eqb M N)) (absent N Ms) h .1) k (omega arith)
+
+distinct-at : (Ns : List ℕ) → T (distinct Ns) → (k : ℕ) → k < length Ns → getD Ns k 0 ≢ 0
+distinct-at [] d k l = absurd (not-suc-le-zero l)
+distinct-at (N ∷ Ns) d zero l = λ e. unlike 0 N (both (not (eqb 0 N)) (absent N Ns) (both (absent N (0 ∷ Ns)) (distinct Ns) d .0) .0) (sym e)
+distinct-at (N ∷ Ns) d (suc k) l = distinct-at Ns (both (absent N (0 ∷ Ns)) (distinct Ns) d .1) k (omega arith)
+
+numbered-length : (Ns : List ℕ) (rs : List Refusal) → Numbered Ns rs → length Ns ≡ length rs
+unfolding Numbered
+numbered-length [] [] o = refl
+numbered-length [] (r ∷ rs) o = absurd o
+numbered-length (N ∷ Ns) [] o = absurd o
+numbered-length (N ∷ Ns) (r ∷ rs) o = ap suc (numbered-length Ns rs (o .1))
+
+-- a list that speaks does so with one of its numbers
+speaks-numbered : (N : ℕ) → N ≢ 0 → (Ns : List ℕ) (rs : List Refusal) → Numbered Ns rs → T (absent N Ns) → first rs .number ≢ N
+unfolding first Numbered
+speaks-numbered N some [] [] o a e = some (sym e)
+speaks-numbered N some [] (r ∷ rs) o a e = o
+speaks-numbered N some (M ∷ Ms) [] o a e = o
+speaks-numbered N some (M ∷ Ms) (r ∷ rs) o a e =
+    let h = both (not (eqb M N)) (absent N Ms) a in
+    speaks? r
+    (λ z. speaks-numbered N some Ms rs (o .1) (h .1) (sym (number-of (or-silent r (first rs) z)) ∙ e))
+    (λ n. unlike M N (h .0) (sym (o .0 n) ∙ sym (number-of (or-speaks r (first rs) n)) ∙ e))
+
+-- a list of checks says the number of its check k at L exactly when the checks before that one are silent and it says so
+pub exact-at : (Ns : List ℕ) (rs : List Refusal) → Numbered Ns rs → T (distinct Ns) → (k L : ℕ) → k < length rs → (first rs ≡ refused (getD Ns k 0) L) ↔ (Silents (take k rs) × (getD rs k fine ≡ refused (getD Ns k 0) L))
+unfolding first Silents Numbered
+exact-at Ns [] o d k L l = absurd (not-suc-le-zero l)
+exact-at [] (r ∷ rs) o d k L l = absurd o
+exact-at (N ∷ Ns) (r ∷ rs) o d zero L l =
+    let some = distinct-at (N ∷ Ns) d 0 (omega arith) in
+    let later = both (not (eqb 0 N)) (absent N Ns) (both (absent N (0 ∷ Ns)) (distinct Ns) d .0) .1 in
+    Iff·trans (or-says N L some r (first rs))
+    (⊎-elim (λ e. (tt, e)) (λ s. absurd (speaks-numbered N some Ns rs (o .1) later (number-of (s .1)))), λ s. inl (s .1))
+exact-at (N ∷ Ns) (r ∷ rs) o d (suc k) L l =
+    let below : k < length Ns = omega (arith, numbered-length Ns rs (o .1)) in
+    let some = distinct-at Ns (both (absent N (0 ∷ Ns)) (distinct Ns) d .1) k below in
+    let later = both (not (eqb 0 N)) (absent N Ns) (both (absent N (0 ∷ Ns)) (distinct Ns) d .0) .1 in
+    let rest = exact-at Ns rs (o .1) (both (absent N (0 ∷ Ns)) (distinct Ns) d .1) k L (omega arith) in
+    Iff·trans (or-says (getD Ns k 0) L some r (first rs))
+    (⊎-elim
+    (λ e. absurd (absent-at N Ns later k below (sym (number-of e) ∙ o .0 (λ z. some (sym (number-of e) ∙ z)))))
+    (λ s. let q = rest .0 (s .1) in ((s .0, q .0), q .1)), λ s. inr (s .0 .0, rest .1 (s .0 .1, s .1)))
 
 -- the first of the checks g 0, .. g (n - 1) that speaks says N at L: "lowest", "first such"
 pub record Lowest (g : ℕ → Refusal) (n N L : ℕ) : Type 0 where

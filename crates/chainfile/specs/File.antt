@@ -6,6 +6,7 @@
 --   offsetCheck len n q w      3: where the tables stand
 --   fileOffsets f, fileRange f, fileOrder f
 --                              3, 4 and 5 of the file f
+--   readChecks f               the reader's checks, in order
 --   readRefusal f, readAnswer f
 --                              what the reader refuses f with, and its whole answer
 --   BadTable, Shared, Misplaced
@@ -89,9 +90,12 @@ abbrev pub fileOrder : List ℕ → Refusal
 fileOrder f = orderCheck (chainOf f) (queuesAt f)
 
 -- "the reader checks 1 to 5"
+abbrev pub readChecks : List ℕ → List Refusal
+readChecks f = lengthCheck f ∷ countCheck (countOf f) ∷ fileOffsets f ∷ fileRange f ∷ fileOrder f ∷ []
+
 unfoldable pub readRefusal : List ℕ → Refusal
 unfolding first offsetCheck chainOf rangeCheck orderCheck
-readRefusal f = first (lengthCheck f ∷ countCheck (countOf f) ∷ fileOffsets f ∷ fileRange f ∷ fileOrder f ∷ [])
+readRefusal f = first (readChecks f)
 
 -- what the reader answers to any bytes
 unfoldable pub readAnswer : List ℕ → ChainAnswer

@@ -4,6 +4,7 @@
 --   words c              all words: header, queue table, node table
 --   packed c             their bytes
 --   roomCheck need room  10: lent output shorter than what would be written
+--   writeChecks c room   the writer's checks, in order
 --   writeRefusal c room  what the writer refuses c with, the lent output being `room` bytes long
 --   Output r t o p a     what a call that writes a text t into lent bytes o answers and leaves there, its refusal being r
 --   output-..            its cases, as code has them
@@ -58,9 +59,12 @@ abbrev pub roomCheck : ℕ → ℕ → Refusal
 roomCheck need room = test 10 need (ltb room need)
 
 -- "the writer checks 2, 4, 5, 10"
+abbrev pub writeChecks : Chain → ℕ → List Refusal
+writeChecks c room = countCheck (c .n) ∷ recordRange c ∷ recordOrder c ∷ roomCheck (packedLength (c .n)) room ∷ []
+
 unfoldable pub writeRefusal : Chain → ℕ → Refusal
 unfolding first rangeCheck orderCheck
-writeRefusal c room = first (countCheck (c .n) ∷ recordRange c ∷ recordOrder c ∷ roomCheck (packedLength (c .n)) room ∷ [])
+writeRefusal c room = first (writeChecks c room)
 
 -- a call that writes: the answer is the refusal, or the text's length; the lent bytes o become p,
 -- the text first and every byte past it as it was, or all of them as they were where it refuses
