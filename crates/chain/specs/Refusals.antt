@@ -279,10 +279,12 @@ exact-at (N ∷ Ns) (r ∷ rs) o d (suc k) L l =
     let some = distinct-at Ns (both (absent N (0 ∷ Ns)) (distinct Ns) d .1) k below in
     let later = both (not (eqb 0 N)) (absent N Ns) (both (absent N (0 ∷ Ns)) (distinct Ns) d .0) .1 in
     let rest = exact-at Ns rs (o .1) (both (absent N (0 ∷ Ns)) (distinct Ns) d .1) k L (omega arith) in
-    Iff·trans (or-says (getD Ns k 0) L some r (first rs))
-    (⊎-elim
-    (λ e. absurd (absent-at N Ns later k below (sym (number-of e) ∙ o .0 (λ z. some (sym (number-of e) ∙ z)))))
-    (λ s. let q = rest .0 (s .1) in ((s .0, q .0), q .1)), λ s. inr (s .0 .0, rest .1 (s .0 .1, s .1)))
+    Iff·trans (or-says (getD Ns k 0) L some r (first rs)) (
+      ⊎-elim
+          (λ e. absurd (absent-at N Ns later k below (sym (number-of e) ∙ o .0 (λ z. some (sym (number-of e) ∙ z)))))
+          (λ s. let q = rest .0 (s .1) in ((s .0, q .0), q .1)),
+      λ s. inr (s .0 .0, rest .1 (s .0 .1, s .1)),
+    )
 
 -- the first of the checks g 0, .. g (n - 1) that speaks says N at L: "lowest", "first such"
 pub record Lowest (g : ℕ → Refusal) (n N L : ℕ) : Type 0 where

@@ -8,7 +8,8 @@ ghost use Rattle.chain.specs.Tests.{outside};
 ghost use Rattle.chain.specs.Refusals.{test, first};
 ghost use Rattle.chain.specs.Record.{rowOf, workOf};
 ghost use Rattle.chain.specs.Checks.{countCheck, field, outOfRange, rowRange, nodeRange, rangeCheck, overdrawn, orderCheck, chainRefusal, Row, Table, Tables};
-use crate::{Chain, Refusal};
+use crate::Chain;
+use crate::Refusal;
 use words::Queue;
 
 pub const FINE: Refusal = Refusal {

@@ -1,13 +1,14 @@
 // The chain record: the refusal, the checks 2, 4 and 5 of a chain's own numbers, and the factory chains.
 mod checks;
 mod stock;
-pub use words::Queue;
+
 pub use checks::FINE;
 pub use checks::check_chain;
 pub use checks::check_tables;
 pub use checks::count_check;
 pub use checks::test;
 pub use stock::factory;
+pub use words::Queue;
 
 // A refusal number of 01 with its place; number 0 and place 0 where nothing is refused.
 #[repr(C)]

@@ -1,6 +1,7 @@
 // The chain file: a reader that takes any bytes of any length, and a writer of the packed file.
 mod reader;
 mod writer;
+
 pub use reader::read;
 pub use writer::write;
 

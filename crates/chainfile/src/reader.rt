@@ -11,7 +11,10 @@ ghost use Rattle.words.specs.Table.{slots};
 ghost use Rattle.chain.specs.Tests.{outside};
 ghost use Rattle.chain.specs.Checks.{Table};
 ghost use Rattle.chainfile.specs.File.{totalOf, lengthCheck, misplaced, overlap, offsetCheck, headerRefusal, Placed, chainOf, readAnswer};
-use chain::{Chain, ChainAnswer, Queue, Refusal};
+use chain::Chain;
+use chain::ChainAnswer;
+use chain::Queue;
+use chain::Refusal;
 
 // The chain of a file, or the refusal of the first of 1 to 5 that speaks.
 pub fn read(file: &[u8]) -> ChainAnswer
@@ -19,16 +22,28 @@ pub fn read(file: &[u8]) -> ChainAnswer
 {
     let header = header_check(file);
     if header.number != 0 {
-        return ChainAnswer { number: header.number, place: header.place, chain: chain::EMPTY };
+        return ChainAnswer {
+            number: header.number,
+            place: header.place,
+            chain: chain::EMPTY,
+        };
     }
     let chain = load(file);
     let q = words::word_of(file, 8);
     let w = words::word_of(file, 12);
     let rows = chain::check_tables(chain, q, w);
     if rows.number != 0 {
-        return ChainAnswer { number: rows.number, place: rows.place, chain: chain::EMPTY };
+        return ChainAnswer {
+            number: rows.number,
+            place: rows.place,
+            chain: chain::EMPTY,
+        };
     }
-    ChainAnswer { number: 0, place: 0, chain: chain }
+    ChainAnswer {
+        number: 0,
+        place: 0,
+        chain: chain,
+    }
 }
 
 // 1, 2 and 3: what is wrong with the header, before any row is looked at.
@@ -108,7 +123,12 @@ fn load(file: &[u8]) -> Chain
     let w = words::word_of(file, 12);
     let queues = load_rows(file, q as usize, n as usize);
     let work = load_times(file, w as usize, n as usize);
-    Chain { n: n, period: period, queues: queues, work: work }
+    Chain {
+        n: n,
+        period: period,
+        queues: queues,
+        work: work,
+    }
 }
 
 // The queue table's n rows from `at` on, each in its slot.

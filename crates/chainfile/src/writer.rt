@@ -5,8 +5,8 @@ ghost use lib.ListN.{length};
 ghost use Rattle.words.specs.Put.{Puts};
 ghost use Rattle.words.specs.Words.{bytesOf};
 ghost use Rattle.chainfile.specs.Packed.{header, rows, nodes, packed, writeRefusal, Output, Fits, TableFits};
-use chain::Chain;
 use crate::LengthAnswer;
+use chain::Chain;
 
 // Writes the packed file of a chain to the front of the lent bytes, and answers its length; or refuses and writes nothing.
 pub fn write(chain: Chain, out: &mut [u8]) -> LengthAnswer
@@ -14,14 +14,26 @@ pub fn write(chain: Chain, out: &mut [u8]) -> LengthAnswer
 {
     let wrong = chain::check_chain(chain);
     if wrong.number != 0 {
-        return LengthAnswer { number: wrong.number, place: wrong.place, length: 0 };
+        return LengthAnswer {
+            number: wrong.number,
+            place: wrong.place,
+            length: 0,
+        };
     }
     let need = 20 + 24 * (chain.n as usize);
     if out.len() < need {
-        return LengthAnswer { number: 10, place: need as u32, length: 0 };
+        return LengthAnswer {
+            number: 10,
+            place: need as u32,
+            length: 0,
+        };
     }
     let end = put_chain(chain, out);
-    LengthAnswer { number: 0, place: 0, length: end as u64 }
+    LengthAnswer {
+        number: 0,
+        place: 0,
+        length: end as u64,
+    }
 }
 
 // Writes a chain where there is room for it, and answers the place behind it.

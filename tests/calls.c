@@ -1,0 +1,152 @@
+/* The library's calls behind standard input and output: answers one request after the other until the input ends.
+ *
+ * A request is a letter and what the call takes, an answer is what the call gives, with nothing in between. Structs
+ * and numbers are as x86-64 has them in memory; every length is a uint64_t.
+ *
+ *     request                    answer
+ *     r, memory                  chain answer, memory      reads what is lent
+ *     w, chain, memory           length answer, memory     writes the chain to what is lent
+ *     f, uint32_t                chain answer              gives a factory chain
+ *     l, chain, length           byte 0, or byte 1, length answer, first bytes, chain answer
+ *
+ * In a request, memory is three lengths, of the bytes before what is lent, of those lent and of those behind, and then
+ * all of these bytes; the first is put at a multiple of 16. In an answer, memory is the same bytes as the call left
+ * them.
+ *
+ * l is for more memory than can be sent. It takes so many zero bytes, writes the chain to them and then reads all of
+ * them. The first bytes, as they are then, are as many as the longest packed file has. Byte 0 is all of the answer
+ * where that much memory can't be had. */
+#include <stdio.h>
+#include <stdlib.h>
+
+#include "ardenquill.h"
+
+/* The bytes that are shown of large memory. */
+#define FIRST ARDENQUILL_PACKED_LENGTH(ARDENQUILL_MAX_QUEUES)
+
+/* Memory of a request: what is lent, between bytes that no call may look at. */
+struct memory {
+    uint8_t *bytes;
+    size_t length;
+    uint8_t *lent;
+    size_t lent_length;
+};
+
+/* Ends the program without an answer. */
+static void give_up(const char *why)
+{
+    fprintf(stderr, "calls: %s\n", why);
+    exit(1);
+}
+
+/* Takes bytes of a request. */
+static void take(void *bytes, size_t length)
+{
+    if (fread(bytes, 1, length, stdin) != length)
+        give_up("the input ends within a request");
+}
+
+/* Puts bytes of an answer. */
+static void put(const void *bytes, size_t length)
+{
+    if (fwrite(bytes, 1, length, stdout) != length)
+        give_up("the answer can't be written");
+}
+
+/* Takes memory, to be put and freed by put_memory. */
+static struct memory take_memory(void)
+{
+    uint64_t lengths[3];
+    take(lengths, sizeof lengths);
+    struct memory memory;
+    memory.length = lengths[0] + lengths[1] + lengths[2];
+    memory.bytes = malloc(memory.length);
+    if (memory.bytes == NULL)
+        give_up("no memory");
+    memory.lent = memory.bytes + lengths[0];
+    memory.lent_length = lengths[1];
+    take(memory.bytes, memory.length);
+    return memory;
+}
+
+/* Puts memory as it is now, and frees it. */
+static void put_memory(struct memory memory)
+{
+    put(memory.bytes, memory.length);
+    free(memory.bytes);
+}
+
+/* Answers r. */
+static void answer_read(void)
+{
+    struct memory memory = take_memory();
+    struct ardenquill_chain_answer answer = ardenquill_read(memory.lent, memory.lent_length);
+    put(&answer, sizeof answer);
+    put_memory(memory);
+}
+
+/* Answers w. */
+static void answer_write(void)
+{
+    struct ardenquill_chain chain;
+    take(&chain, sizeof chain);
+    struct memory memory = take_memory();
+    struct ardenquill_length_answer answer = ardenquill_write(chain, memory.lent, memory.lent_length);
+    put(&answer, sizeof answer);
+    put_memory(memory);
+}
+
+/* Answers f. */
+static void answer_factory(void)
+{
+    uint32_t number;
+    take(&number, sizeof number);
+    struct ardenquill_chain_answer answer = ardenquill_factory(number);
+    put(&answer, sizeof answer);
+}
+
+/* Answers l. */
+static void answer_large(void)
+{
+    struct ardenquill_chain chain;
+    take(&chain, sizeof chain);
+    uint64_t length;
+    take(&length, sizeof length);
+    uint8_t *bytes = calloc(length, 1);
+    uint8_t had = bytes != NULL;
+    put(&had, sizeof had);
+    if (!had)
+        return;
+    struct ardenquill_length_answer written = ardenquill_write(chain, bytes, length);
+    struct ardenquill_chain_answer read = ardenquill_read(bytes, length);
+    put(&written, sizeof written);
+    put(bytes, FIRST);
+    put(&read, sizeof read);
+    free(bytes);
+}
+
+int main(void)
+{
+    int call;
+    while ((call = getchar()) != EOF) {
+        switch (call) {
+        case 'r':
+            answer_read();
+            break;
+        case 'w':
+            answer_write();
+            break;
+        case 'f':
+            answer_factory();
+            break;
+        case 'l':
+            answer_large();
+            break;
+        default:
+            give_up("there is no such call");
+        }
+        if (fflush(stdout) != 0)
+            give_up("the answer can't be written");
+    }
+    return 0;
+}
