@@ -1,10 +1,12 @@
 //! Measures reading and writing: nanoseconds per call of the library and of the yardstick, and
 //! their ratio, on the same inputs in one run.
 
+mod library;
+
 use compare::chains::valid;
-use compare::library::{ardenquill_read, ardenquill_write};
 use compare::packed::packed_file;
 use compare::random::Random;
+use library::{ardenquill_read, ardenquill_write};
 use std::hint::black_box;
 use std::slice;
 use std::time::Instant;
@@ -73,7 +75,7 @@ fn refused_first(mut files: Vec<Vec<u8>>) -> Vec<Vec<u8>> {
 /// Prints the line of reading some files, each of which must be answered with a number.
 fn read_line(name: &str, files: &[Vec<u8>], number: u32) {
     for file in files {
-        let answer = compare::library::read(file);
+        let answer = library::read(file);
         assert_eq!(
             answer,
             yardstick::read(file),
@@ -100,7 +102,7 @@ fn read_line(name: &str, files: &[Vec<u8>], number: u32) {
 fn write_line(name: &str, chains: &[Chain], lacking: usize, number: u32) {
     let mut out = vec![0; packed_length(chains[0].n as usize) - lacking];
     for chain in chains {
-        let answer = compare::library::write(chain, &mut out);
+        let answer = library::write(chain, &mut out);
         assert_eq!(
             answer,
             yardstick::write(chain, &mut out),

@@ -106,10 +106,6 @@ field-exact L f = Iff·trans (test-exact 4 L (f .place) (λ e. omega arith) _) (
 field-silent : (f : Field) → Silent (outOfRange f) ↔ FieldIn f
 field-silent f = Iff·trans (test-silent 4 (f .place) (λ e. omega arith) _) (outside-false (f .least) (f .most) (f .value))
 
--- a field checked last: it speaks, or all is fine
-pub field-last : {r : Refusal} (f : Field) → r ≡ outOfRange f → r ≡ first (outOfRange f ∷ [])
-field-last f e = e ∙ test-alone 4 (f .place) (λ z. omega arith) (outside (f .least) (f .most) (f .value))
-
 -- the field at k of a list
 abbrev pub fieldAt : List Field → ℕ → Field
 fieldAt fs k = getD fs k (field 0 0 0 0)
@@ -312,12 +308,3 @@ pub record Tables (n q w : ℕ) : Type 0 where
 -- a queue row that stands at a place of a file
 pub record Row (at : ℕ) : Type 0 where
   pub ends : at + 20 ≤ 4096
-
--- a chain of at most 16 queues, laid out as in its packed file
-pub packed-tables : (n : ℕ) → In 1 16 n → Tables n 20 (20 + 20 * n)
-packed-tables n h = record { queues = record { few = h .1; ends = omega (arith, h .1) }; nodes = record { few = h .1; ends = omega (arith, h .1) } }
-
--- the order checked last: it speaks, or all is fine
-pub order-last : {r : Refusal} (c : Chain) (q : ℕ) → r ≡ orderCheck c q → r ≡ first (orderCheck c q ∷ [])
-unfolding orderCheck first
-order-last c q e = e ∙ sym (first-last (tab (c .n) (λ i. overdrawn (rowOf c i) (q + 20 * i))))

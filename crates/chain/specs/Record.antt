@@ -4,8 +4,10 @@
 --   trimmed c                the chain c with its slots past n zero
 --   answered r c             the answer of a call that makes a chain: the refusal r, or c where r is silent
 --   answered-refused, -fine  its two cases, as code has them
+--   same-chain               chains of equal parts are equal
+--   trimmed-answer           the chain of an answer has its slots past n zero where the chain made has
 use mathlib.Core.Path.{_≡_, refl, sym, ap, _∙_}
-use mathlib.Core.Bool.{cond}
+use mathlib.Core.Bool.{Bool, true, false, cond}
 use mathlib.Core.List.{List}
 use Prim.Native.Nat.{ℕ}
 use lib.Dec.{eqb}
@@ -47,3 +49,16 @@ answered-refused c e h = rw (← e) (simp (ne-eqb _ _ h))
 pub answered-fine : {s : Refusal} (c : Chain) → fine ≡ s → record { number = 0; place = 0; chain = c } ≡ answered s c
 unfolding answered
 answered-fine c e = rw (← e)
+
+-- chains of equal parts are equal
+pub same-chain : {c d : Chain} → c .n ≡ d .n → c .period ≡ d .period → c .queues ≡ d .queues → c .work ≡ d .work → c ≡ d
+same-chain n y q w = λ i. record { n = n i; period = y i; queues = q i; work = w i }
+
+-- the chain of an answer is the one made, or the empty one
+pub trimmed-answer : (r : Refusal) (c : Chain) → trimmed c ≡ c → trimmed (answered r c .chain) ≡ answered r c .chain
+unfolding answered trimmed
+trimmed-answer r c e = by (eqb (r .number) 0)
+  where
+    by : (b : Bool) → trimmed (cond b c emptyChain) ≡ cond b c emptyChain
+    by true = e
+    by false = refl

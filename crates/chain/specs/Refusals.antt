@@ -14,7 +14,6 @@
 --   first-append       a list, then the next one
 --   first-is           first rs is refused N L exactly when First rs N L
 --   exact-at           a list says the number of its check k at L exactly when the checks before it are silent and it says so
---   scan-..            a loop over the checks g 0, g 1, .. that stops at the first that speaks
 use mathlib.Core.Path.{_≡_, refl, sym, ap, _∙_}
 use mathlib.Core.Bool.{Bool, true, false, cond, not, _&&_, true≢false}
 use mathlib.Core.Logic.{_↔_, _≢_, _⊎_, inl, inr, ⊎-elim, Iff·trans, Iff·and, Iff·rfl, by-cases}
@@ -74,7 +73,7 @@ or-speaks r s h = simp (ne-eqb _ _ h)
 speaks? : {C : Type 0} (r : Refusal) → (Silent r → C) → ((Silent r → ⊥) → C) → C
 speaks? r = by-cases (ℕ-discrete (r .number) 0)
 
-number-of : {r s : Refusal} → r ≡ s → r .number ≡ s .number
+pub number-of : {r s : Refusal} → r ≡ s → r .number ≡ s .number
 number-of e = ap (λ (x : Refusal). x .number) e
 
 -- the two cases of a check and the next one, as code has them: r was answered for a
@@ -339,45 +338,3 @@ module _ {A : Type 0} (g : A → Refusal) where
   unfolding tab
   map-tab zero f = refl
   map-tab (suc n) f = ap (λ (l : List Refusal). g (f zero) ∷ l) (map-tab n (λ i. f (suc i)))
-
--- a loop over the rows of a table that stops at the first refusal: row i stands at q + width * i, and h i says what is
--- refused of it there; before row i, which stands at `at`, nothing was
-pub record Scanned (h : ℕ → ℕ → Refusal) (n q width i at : ℕ) : Type 0 where
-  pub within : i ≤ n
-  pub place : at ≡ q + width * i
-  pub silent : Silent (first (tab i (λ j. h j (q + width * j))))
-
-module _ (h : ℕ → ℕ → Refusal) (n q width : ℕ) where
-  turn : ℕ → Refusal
-  turn j = h j (q + width * j)
-
-  pub scan-start : Scanned h n q width 0 q
-  unfolding first tab
-  scan-start = record { within = zero-le; place = omega arith; silent = refl }
-
-  pub scan-more : {r : Refusal} {i at : ℕ} → Scanned h n q width i at → i < n → r ≡ h i at → Silent r → Scanned h n q width (i + 1) (at + width)
-  unfolding turn Silents
-  scan-more {r} {i} {at} s l e z = record {
-    within = omega arith;
-    place = omega (arith, s .place);
-    silent = number-of (ap first (tab-more i turn) ∙ first-append (tab i turn) (turn i ∷ [])) ∙ or-silents (first (tab i turn)) (first (turn i ∷ [])) .1 (s .silent, first-silent (turn i ∷ []) .1 (here, tt));
-  }
-    where
-      here : Silent (turn i)
-      here = sym (number-of (e ∙ ap (h i) (s .place))) ∙ z
-
-  pub scan-stop : {r : Refusal} {i at : ℕ} → Scanned h n q width i at → i < n → r ≡ h i at → (Silent r → ⊥) → r ≡ first (tab n (λ j. h j (q + width * j)))
-  unfolding turn
-  scan-stop {r} {i} {at} s l e k =
-      is ∙ sym (first-given (turn i .number) (turn i .place) (λ z. k (number-of is ∙ z)) (tab n turn) i (rw (length-tab n turn) l) (tab-at n turn i fine l) before)
-    where
-      is : r ≡ turn i
-      is = e ∙ ap (h i) (s .place)
-
-      before : (j : ℕ) → j < i → Silent (getD (tab n turn) j fine)
-      before j m =
-          number-of (tab-at n turn j fine (omega arith) ∙ sym (tab-at i turn j fine m)) ∙ silents-at (tab i turn) (first-silent (tab i turn) .0 (s .silent)) j
-
-  pub scan-end : {i at : ℕ} → Scanned h n q width i at → n ≤ i → fine ≡ first (tab n (λ j. h j (q + width * j)))
-  unfolding turn
-  scan-end {i} s l = let e : n ≡ i = omega (arith, s .within) in rw e (sym (first-fine (tab i turn) (s .silent)))

@@ -1,3 +1,5 @@
 pub mod File
 pub mod Packed
+pub mod Accepted
 pub mod Exact
+pub mod RoundTrip

@@ -7,7 +7,7 @@
 --   writeChecks c room   the writer's checks, in order
 --   writeRefusal c room  what the writer refuses c with, the lent output being `room` bytes long
 --   Output r t o p a     what a call that writes a text t into lent bytes o answers and leaves there, its refusal being r
---   output-..            its cases, as code has them
+--   output-fine          what it is where nothing is refused
 --   room-exact           10 is said exactly under its condition
 use mathlib.Core.Path.{_≡_, refl, sym, ap, _∙_}
 use mathlib.Core.Bool.{cond}
@@ -20,7 +20,7 @@ use borrow.Author.Tests.{eq-eqb, ne-eqb, lt-ltb, le-ltb}
 use lib.ListN.{length, drop, length-append}
 use Rattle.words.specs.Put.{Puts, puts-none, put-front}
 use Rattle.words.specs.Flat.{flat, flat-more, flat-length}
-use Rattle.words.specs.Words.{bytesOf, bytes-length, then-words}
+use Rattle.words.specs.Words.{bytesOf, bytes-append, bytes-length}
 use Rattle.words.specs.Rows.{row}
 use Rattle.chain.specs.Tests.{below-true}
 use Rattle.chain.specs.Refusals.{refused, fine, test, first, orElse, Silent, Only, only-test, test-exact, first-append}
@@ -72,30 +72,15 @@ pub record Output (r : Refusal) (t o p : List ℕ) (a : LengthAnswer) : Type 0 w
   pub answer : a ≡ record { number = r .number; place = r .place; length = cond (eqb (r .number) 0) (length t) 0 }
   pub bytes : p ≡ cond (eqb (r .number) 0) (t ++ drop (length t) o) o
 
-pub output-refused : {r s : Refusal} (t o : List ℕ) → r ≡ s → (Silent r → ⊥) → Output s t o o (record { number = r .number; place = r .place; length = 0 })
-output-refused {r} t o e h = rw (← e) (record { answer = simp (ne-eqb _ _ h); bytes = simp (ne-eqb _ _ h) })
-
-pub output-done : {s : Refusal} {t o p : List ℕ} {k : ℕ} → fine ≡ s → length t ≤ length o → Puts o 0 t p k → Output s t o p (record { number = 0; place = 0; length = k })
-output-done {s} {t} {o} e l w = rw (← e) (record { answer = ap (λ (n : ℕ). record { number = 0; place = 0; length = n }) (omega (arith, w .next)); bytes = w .holds ∙ put-front o t l })
+-- a call that wrote: its answer, and what became of the lent bytes
+pub output-fine : {r : Refusal} {t o p : List ℕ} {a : LengthAnswer} → r ≡ fine → Output r t o p a → (a ≡ record { number = 0; place = 0; length = length t }) × (p ≡ t ++ drop (length t) o)
+output-fine {r} {t} {o} {p} {a} e w = let v : Output fine t o p a = rw e at w in (v .answer, v .bytes)
 
 pub room-exact : (L need room : ℕ) → (roomCheck need room ≡ refused 10 L) ↔ ((room < need) × (L ≡ need))
 room-exact L need room = Iff·trans (test-exact 10 L need (λ e. omega arith) _) (Iff·and (below-true room need) Iff·rfl)
 
 pub room-only : (need room : ℕ) → Only 10 (roomCheck need room)
 room-only need room = only-test 10 need (ltb room need)
-
-pub write-parts : (c : Chain) (room : ℕ) → writeRefusal c room ≡ orElse (chainRefusal c) (first (roomCheck (packedLength (c .n)) room ∷ []))
-unfolding writeRefusal chainRefusal
-write-parts c room = first-append (countCheck (c .n) ∷ recordRange c ∷ recordOrder c ∷ []) (roomCheck (packedLength (c .n)) room ∷ [])
-
--- the two cases of the room, as code has them, behind a silent record
-pub room-short : (need room : ℕ) → room < need → refused 10 need ≡ first (roomCheck need room ∷ [])
-unfolding first orElse
-room-short need room h = simp (lt-ltb _ _ h)
-
-pub room-enough : (need room : ℕ) → need ≤ room → fine ≡ first (roomCheck need room ∷ [])
-unfolding first orElse
-room-enough need room h = simp (le-ltb _ _ h)
 
 -- how long the tables and the file are
 pub rows-length : (c : Chain) (i : ℕ) → length (rows c i) ≡ 5 * i
@@ -109,21 +94,12 @@ unfolding packed
 packed-length c =
     omega (arith, bytes-length (words c), length-append (rows c (c .n)) (nodes c (c .n)), rows-length c (c .n), nodes-length c (c .n))
 
--- a table written row by row
-pub table-start : {l : List ℕ} {at : ℕ} (f : ℕ → List ℕ) → Puts l at (bytesOf (flat f 0)) l at
-unfolding flat bytesOf
-table-start f = puts-none
-
-pub table-put : {l m o : List ℕ} {at k j : ℕ} (f : ℕ → List ℕ) (i : ℕ) → Puts l at (bytesOf (flat f i)) m k → Puts m k (bytesOf (f i)) o j → Puts l at (bytesOf (flat f (i + 1))) o j
-table-put f i p q = rw (flat-more f i) (then-words (flat f i) (f i) p q)
-
-pub table-end : {l m : List ℕ} {at k : ℕ} (f : ℕ → List ℕ) (i n : ℕ) → i ≤ n → n ≤ i → Puts l at (bytesOf (flat f i)) m k → Puts l at (bytesOf (flat f n)) m k
-table-end f i n g h p = let e : n ≡ i = omega arith in rw e p
-
--- header, queue table and node table written one after the other are the packed file
-pub file-put : {l m o p : List ℕ} {j k r : ℕ} (c : Chain) → Puts l 0 (bytesOf (header (c .n) (c .period))) m j → Puts m j (bytesOf (rows c (c .n))) o k → Puts o k (bytesOf (nodes c (c .n))) p r → Puts l 0 (packed c) p r
+-- the bytes of a packed file: header, queue table, node table
+pub packed-parts : (c : Chain) → packed c ≡ bytesOf (header (c .n) (c .period)) ++ (bytesOf (rows c (c .n)) ++ bytesOf (nodes c (c .n)))
 unfolding packed
-file-put c x y z = then-words (header (c .n) (c .period)) (rows c (c .n) ++ nodes c (c .n)) x (then-words (rows c (c .n)) (nodes c (c .n)) y z)
+packed-parts c =
+    bytes-append (header (c .n) (c .period)) (rows c (c .n) ++ nodes c (c .n))
+    ∙ ap (λ (l : List ℕ). bytesOf (header (c .n) (c .period)) ++ l) (bytes-append (rows c (c .n)) (nodes c (c .n)))
 
 -- room in the lent bytes l for k bytes from `at` on, of a chain of n queues; and for its whole packed file
 pub record TableFits (n : ℕ) (l : List ℕ) (at k : ℕ) : Type 0 where

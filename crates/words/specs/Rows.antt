@@ -5,15 +5,20 @@
 --   row-there, -past  its two cases
 --   same-row          rows of equal words are equal
 --   row-made          five words, read where the row is there, are the row
-use mathlib.Core.Path.{_≡_, sym, _∙_}
+--   table-back        the bytes of a table that was read row by row are the bytes it was read from
+--   row-back          and so are those of a row
+--   row-alike         equal bytes give equal rows
+use mathlib.Core.Path.{_≡_, sym, ap, ap₂, _∙_}
 use mathlib.Core.Bool.{cond}
-use mathlib.Core.List.{List, [], _∷_}
-use Prim.Native.Nat.{ℕ, _+_, _≤_, _<_}
+use mathlib.Core.List.{List, [], _∷_, _++_}
+use Prim.Native.Nat.{ℕ, zero, suc, _+_, _*_, _≤_, _<_}
+use native.Mathlib.Nat.{add-zero, mul-zero, mul-suc}
 use native.Mathlib.Omega.{arith}
 use lib.Dec.{leb}
 use borrow.Author.Tests.{le-leb, lt-leb}
 use lib.ListN.{length}
-use Rattle.words.specs.Words.{fourAt, wordAt, word-there}
+use Rattle.words.specs.Flat.{flat}
+use Rattle.words.specs.Words.{bytesOf, fourAt, wordAt, word-there, bytes-append, Bytes, part, part-add, word-back, Alike, word-alike}
 use Rattle.words.specs.declared.Queue.{Queue}
 
 -- the row of a slot that no queue has
@@ -51,3 +56,27 @@ row-made s at p τ c b z h e f g k l =
   where
     there : (o : ℕ) → o + 4 ≤ length s → fourAt s o ≡ wordAt s o
     there o m = sym (word-there s o m)
+
+-- the table of n rows, w bytes each, that stands at `at`
+pub table-back : (s : List ℕ) (at w : ℕ) (f : ℕ → List ℕ) (n : ℕ) → ((i : ℕ) → i < n → bytesOf (f i) ≡ part s (at + w * i) w) → bytesOf (flat f n) ≡ part s at (w * n)
+unfolding flat bytesOf
+table-back s at w f zero h = rw (mul-zero w)
+table-back s at w f (suc n) h =
+    bytes-append (flat f n) (f n)
+    ∙ ap₂ _++_ (table-back s at w f n (λ i l. h i (omega arith))) (h n (omega arith))
+    ∙ sym (part-add s at (w * n) w)
+    ∙ ap (part s at) (sym (mul-suc w n))
+
+-- a row is a table of five words
+pub row-back : (s : List ℕ) (at : ℕ) → Bytes s → at + 20 ≤ length s → bytesOf (row (rowAt s at)) ≡ part s at 20
+unfolding flat
+row-back s at b h =
+    ap (λ (q : Queue). bytesOf (row q)) (row-there s at h)
+    ∙ rw (add-zero at) at (table-back s at 4 (λ i. wordAt s (at + 4 * i) ∷ []) 5 (λ i l. word-back s (at + 4 * i) b (omega arith)))
+
+pub row-alike : (s t : List ℕ) (at : ℕ) → length s ≡ length t → Alike s t at 20 → rowAt s at ≡ rowAt t at
+unfolding rowAt
+row-alike s t at e h = rw (e, word at (omega arith) (omega arith), word (at + 4) (omega arith) (omega arith), word (at + 8) (omega arith) (omega arith), word (at + 12) (omega arith) (omega arith), word (at + 16) (omega arith) (omega arith))
+  where
+    word : (o : ℕ) → at ≤ o → o + 4 ≤ at + 20 → wordAt s o ≡ wordAt t o
+    word o l m = word-alike s t o e (λ i p q. h i (omega arith) (omega arith))

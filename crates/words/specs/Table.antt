@@ -8,6 +8,7 @@
 --   slots-none, -more, -end
 --                      a table filled slot by slot: at the start, after one slot more, and at the end
 --   slots-alike        tables that are filled alike are equal
+--   slots-again        a table filled with its own slots is the same table
 use mathlib.Core.Path.{_≡_, refl, sym, ap, _∙_}
 use mathlib.Core.Bool.{Bool, true, false, cond}
 use mathlib.Core.Logic.{_≢_}
@@ -98,3 +99,7 @@ module _ {A : Type 0} (f : ℕ → A) (z : A) where
 pub slots-alike : {A : Type 0} (f g : ℕ → A) (z : A) (N n : ℕ) → ((i : ℕ) → i < n → f i ≡ g i) → slots f z N n ≡ slots g z N n
 slots-alike f g z N n h =
     is-slots g z N n z (slots f z N n) (length-tab N _) (λ i l m. slot-used f z N n i z l m ∙ h i m) (λ i l m. slot-free f z N n i z l m)
+
+pub slots-again : {A : Type 0} (f : ℕ → A) (z : A) (N n : ℕ) → slots (λ i. getD (slots f z N n) i z) z N n ≡ slots f z N n
+slots-again f z N n =
+    sym (is-slots _ z N n z (slots f z N n) (length-tab N _) (λ i l m. refl) (λ i l m. slot-free f z N n i z l m))

@@ -7,7 +7,11 @@
 --   bytes-append, -length, then-words
 --                       words in a row: their bytes are in a row, four to a word, and written one after the other
 --   word-at             word k of the bytes of words is word k: the round trip of every word
+--   Bytes s             each element of s is a machine's byte
+--   part s at k         the k bytes of s from `at` on
+--   part-add            a part, then the one behind it
 --   word-back           the bytes of a word that was read are the bytes it was read from
+--   Alike s t at k      the k bytes from `at` on are the same in s and t
 --   word-alike          equal bytes give equal words
 use mathlib.Core.Path.{_≡_, refl, sym, ap, _∙_}
 use mathlib.Core.Bool.{cond}
@@ -15,10 +19,11 @@ use mathlib.Core.List.{List, [], _∷_, _++_}
 use Prim.Native.Nat.{ℕ, zero, suc, _+_, _*_, _/_, _%_, _^_, _≤_, _<_}
 use native.Mathlib.Nat.{div-div-eq-div-mul, div-add-mod, mod-eq-of-lt}
 use native.Mathlib.Omega.{arith}
+use native.Mathlib.Numerals.{add-one, add-two, add-three}
 use lib.Dec.{leb}
 use borrow.Author.Tests.{le-leb, lt-leb}
-use lib.ListN.{length, getD, length-append}
-use lib.Seq.{getD-append-add}
+use lib.ListN.{length, getD, take, drop, length-append}
+use lib.Seq.{getD-append-add, take-add, drop-drop, drop-cons}
 use Rattle.words.specs.Put.{Puts, then}
 
 -- the four bytes of a word
@@ -91,3 +96,44 @@ four-at (w ∷ ws) (suc k) h =
 
 pub word-at : (ws : List ℕ) (k : ℕ) → k < length ws → getD ws k 0 < 2 ^ 32 → wordAt (bytesOf ws) (4 * k) ≡ getD ws k 0
 word-at ws k l h = word-there (bytesOf ws) (4 * k) (omega (arith, bytes-length ws)) ∙ four-at ws k h
+
+-- a machine's bytes: each element is below 256
+abbrev pub Bytes : List ℕ → Type 0
+Bytes s = (i : ℕ) → getD s i 0 < 256
+
+-- the k bytes from `at` on
+abbrev pub part : List ℕ → ℕ → ℕ → List ℕ
+part s at k = take k (drop at s)
+
+pub part-add : (s : List ℕ) (at k m : ℕ) → part s at (k + m) ≡ part s at k ++ part s (at + k) m
+part-add s at k m = take-add k m (drop at s) ∙ ap (λ (l : List ℕ). part s at k ++ take m l) (drop-drop k at s)
+
+part-four : (s : List ℕ) (at : ℕ) → at + 4 ≤ length s → part s at 4 ≡ getD s at 0 ∷ getD s (at + 1) 0 ∷ getD s (at + 2) 0 ∷ getD s (at + 3) 0 ∷ []
+part-four s at h =
+    let one = drop-cons s at 0 (omega arith) in
+    let two = drop-cons s (suc at) 0 (omega arith) in
+    let three = drop-cons s (suc (suc at)) 0 (omega arith) in
+    let four = drop-cons s (suc (suc (suc at))) 0 (omega arith) in
+    rw (add-one, add-two, add-three, one, two, three, four)
+
+-- four bytes, joined to a word, are the word's bytes
+split : (a b c d : ℕ) → a < 256 → b < 256 → c < 256 → d < 256 → word (a + 256 * b + 65536 * c + 16777216 * d) ≡ a ∷ b ∷ c ∷ d ∷ []
+split a b c d ha hb hc hd =
+    let w : ℕ = a + 256 * b + 65536 * c + 16777216 * d in
+    rw (low w a (b + 256 * c + 65536 * d) (omega arith) ha, low (w / 256) b (c + 256 * d) (omega arith) hb, low (w / 65536) c d (omega arith) hc, low (w / 16777216) d 0 (omega arith) hd)
+  where
+    low : (v a r : ℕ) → v ≡ a + 256 * r → a < 256 → v % 256 ≡ a
+    low v a r e h = omega arith
+
+pub word-back : (s : List ℕ) (at : ℕ) → Bytes s → at + 4 ≤ length s → bytesOf (wordAt s at ∷ []) ≡ part s at 4
+unfolding fourAt bytesOf
+word-back s at b h = ap word (word-there s at h) ∙ split _ _ _ _ (b at) (b (at + 1)) (b (at + 2)) (b (at + 3)) ∙ sym (part-four s at h)
+
+-- the k bytes from `at` on are the same in both
+abbrev pub Alike : List ℕ → List ℕ → ℕ → ℕ → Type 0
+Alike s t at k = (i : ℕ) → at ≤ i → i < at + k → getD s i 0 ≡ getD t i 0
+
+-- in lists of one length, since a word that would pass the end is 0
+pub word-alike : (s t : List ℕ) (at : ℕ) → length s ≡ length t → Alike s t at 4 → wordAt s at ≡ wordAt t at
+unfolding wordAt
+word-alike s t at e h = rw (e, h at (omega arith) (omega arith), h (at + 1) (omega arith) (omega arith), h (at + 2) (omega arith) (omega arith), h (at + 3) (omega arith) (omega arith))

@@ -1,17 +1,15 @@
 //! The comparison of one call on one input: the answer, the lent memory, and the way back through
 //! the other call.
 
+use crate::lent::Lent;
+use crate::library::{Large, Library, Lost};
+use crate::plain::Plain;
 use crate::records::Record;
 use crate::tally::Tally;
-use compare::library;
 use compare::packed::{packed_file, packed_form};
 use compare::random::Random;
 use std::fmt;
-use std::mem::size_of;
-use yardstick::{packed_length, Chain, ChainAnswer, LengthAnswer, Queue, MAX_QUEUES};
-
-/// The random bytes behind lent memory, and one more than the most before it.
-const MARGIN: usize = 16;
+use yardstick::{Chain, ChainAnswer, LengthAnswer, Queue};
 
 /// The most bytes that are shown of an input or of lent memory.
 const SHOWN: usize = 4_100;
@@ -33,60 +31,31 @@ impl fmt::Display for Difference {
     }
 }
 
-/// A struct without padding, so that its bytes are its fields.
-pub trait Plain: Sized {
-    /// The struct's bytes.
-    fn bytes(&self) -> &[u8] {
-        // SAFETY: by the sizes below, every byte of the struct is a byte of one of its fields.
-        unsafe { std::slice::from_raw_parts((self as *const Self).cast(), size_of::<Self>()) }
-    }
+/// Why an input did not pass.
+pub enum Failure {
+    /// The library gave something else than was due.
+    Differs(Difference),
+    /// The library gave nothing.
+    Lost(Lost),
 }
 
-impl Plain for Chain {}
-impl Plain for ChainAnswer {}
-impl Plain for LengthAnswer {}
-
-const _: () = assert!(size_of::<Chain>() == 4 * (2 + 5 * MAX_QUEUES + MAX_QUEUES));
-const _: () = assert!(size_of::<ChainAnswer>() == 4 + 4 + size_of::<Chain>());
-const _: () = assert!(size_of::<LengthAnswer>() == 4 + 4 + 8);
-
-/// Memory to lend, in the middle of random bytes and at any alignment.
-#[derive(Clone)]
-struct Lent {
-    memory: Vec<u8>,
-    start: usize,
-    length: usize,
-}
-
-impl Lent {
-    /// Random bytes to lend.
-    fn random(random: &mut Random, length: usize) -> Self {
-        let start = random.below(MARGIN);
-        Lent {
-            memory: random.bytes(start + length + MARGIN),
-            start,
-            length,
-        }
-    }
-
-    /// A file to lend.
-    fn file(random: &mut Random, file: &[u8]) -> Self {
-        let mut lent = Lent::random(random, file.len());
-        lent.bytes().copy_from_slice(file);
-        lent
-    }
-
-    /// What is lent.
-    fn bytes(&mut self) -> &mut [u8] {
-        &mut self.memory[self.start..][..self.length]
+impl From<Lost> for Failure {
+    /// A lost library is a failure.
+    fn from(lost: Lost) -> Self {
+        Failure::Lost(lost)
     }
 }
 
 /// Compares reading a file; a chain that was read must be written as the file's packed form.
-pub fn read(seen: &mut Tally, random: &mut Random, file: &[u8]) -> Result<(), Difference> {
+pub fn read(
+    library: &mut Library,
+    seen: &mut Tally,
+    random: &mut Random,
+    file: &[u8],
+) -> Result<(), Failure> {
     let mut lent = Lent::file(random, file);
     let before = lent.memory.clone();
-    let answer = library::read(lent.bytes());
+    let answer = library.read(&mut lent)?;
     seen.count(answer.number);
     same_answer("the answer", &answer, &yardstick::read(file))?;
     same_bytes(
@@ -95,99 +64,122 @@ pub fn read(seen: &mut Tally, random: &mut Random, file: &[u8]) -> Result<(), Di
         &before,
     )?;
     match answer.number {
-        0 => written_as(random, &answer.chain, &packed_form(file)),
+        0 => written_as(library, random, &answer.chain, &packed_form(file)),
         _ => Ok(()),
     }
 }
 
 /// Compares writing a record; a file that was written must be the packed one and give the record
 /// back.
-pub fn write(seen: &mut Tally, random: &mut Random, record: &Record) -> Result<(), Difference> {
+pub fn write(
+    library: &mut Library,
+    seen: &mut Tally,
+    random: &mut Random,
+    record: &Record,
+) -> Result<(), Failure> {
     let mut lent = Lent::random(random, record.room);
     let mut due = lent.clone();
-    let answer = library::write(&record.chain, lent.bytes());
+    let answer = library.write(&record.chain, &mut lent)?;
     seen.count(answer.number);
     same_answer(
         "the answer",
         &answer,
-        &yardstick::write(&record.chain, due.bytes()),
+        &yardstick::write(&record.chain, due.bytes_mut()),
     )?;
     same_bytes("the memory lent and around it", &lent.memory, &due.memory)?;
     match answer.number {
         0 => {
             let file = &lent.bytes()[..answer.length as usize];
             same_bytes("the packed file", file, &packed_file(&record.chain))?;
-            read_as(file, &without_litter(&record.chain))
+            read_as(library, random, file, &without_litter(&record.chain))
         }
         _ => Ok(()),
     }
 }
 
 /// Compares a factory chain; it must be written as its packed file and come back from it.
-pub fn factory(seen: &mut Tally, random: &mut Random, number: u32) -> Result<(), Difference> {
-    let answer = library::factory(number);
+pub fn factory(
+    library: &mut Library,
+    seen: &mut Tally,
+    random: &mut Random,
+    number: u32,
+) -> Result<(), Failure> {
+    let answer = library.factory(number)?;
     seen.count(answer.number);
     same_answer("the answer", &answer, &yardstick::factory(number))?;
     match answer.number {
         0 => {
             let file = packed_file(&answer.chain);
-            written_as(random, &answer.chain, &file)?;
-            read_as(&file, &answer.chain)
+            written_as(library, random, &answer.chain, &file)?;
+            read_as(library, random, &file, &answer.chain)
         }
         _ => Ok(()),
     }
 }
 
-/// Compares reading a file that is too large to be copied.
-pub fn read_large(seen: &mut Tally, file: &[u8]) -> Result<(), Difference> {
-    let answer = library::read(file);
-    seen.count(answer.number);
-    same_answer("the answer", &answer, &yardstick::read(file))
+/// Compares what writing a valid chain to large memory gave.
+pub fn write_large(seen: &mut Tally, chain: &Chain, large: &Large) -> Result<(), Failure> {
+    let mut due = vec![0; large.first.len()];
+    seen.count(large.written.number);
+    same_answer(
+        "the answer",
+        &large.written,
+        &yardstick::write(chain, &mut due),
+    )?;
+    same_bytes("the first bytes lent", &large.first, &due)
 }
 
-/// Compares writing a valid chain to memory that is too large to be copied; its first bytes are
-/// looked at.
-pub fn write_large(seen: &mut Tally, chain: &Chain, out: &mut [u8]) -> Result<(), Difference> {
-    let mut due = out[..packed_length(MAX_QUEUES)].to_vec();
-    let answer = library::write(chain, out);
-    seen.count(answer.number);
-    same_answer("the answer", &answer, &yardstick::write(chain, &mut due))?;
-    same_bytes("the first bytes lent", &out[..due.len()], &due)
+/// Compares what reading large memory gave: it is longer than any file.
+pub fn read_large(seen: &mut Tally, large: &Large) -> Result<(), Failure> {
+    seen.count(large.read.number);
+    let due = ChainAnswer {
+        number: 1,
+        ..ChainAnswer::default()
+    };
+    same_answer("the answer", &large.read, &due)
 }
 
 /// Whether the library writes a chain as these bytes, given no more room than they need.
-fn written_as(random: &mut Random, chain: &Chain, file: &[u8]) -> Result<(), Difference> {
+fn written_as(
+    library: &mut Library,
+    random: &mut Random,
+    chain: &Chain,
+    file: &[u8],
+) -> Result<(), Failure> {
     let mut lent = Lent::random(random, file.len());
+    let answer = library.write(chain, &mut lent)?;
     let due = LengthAnswer {
         number: 0,
         place: 0,
         length: file.len() as u64,
     };
-    same_answer(
-        "the answer of writing the chain",
-        &library::write(chain, lent.bytes()),
-        &due,
-    )?;
+    same_answer("the answer of writing the chain", &answer, &due)?;
     same_bytes("the chain written", lent.bytes(), file)
 }
 
 /// Whether the library reads a file as this chain.
-fn read_as(file: &[u8], chain: &Chain) -> Result<(), Difference> {
+fn read_as(
+    library: &mut Library,
+    random: &mut Random,
+    file: &[u8],
+    chain: &Chain,
+) -> Result<(), Failure> {
+    let answer = library.read(&mut Lent::file(random, file))?;
     let due = ChainAnswer {
         number: 0,
         place: 0,
         chain: *chain,
     };
-    same_answer("the answer of reading the file", &library::read(file), &due)
+    same_answer("the answer of reading the file", &answer, &due)
 }
 
 /// Whether two answers have the same bytes.
-fn same_answer<T: Plain>(what: &'static str, library: &T, due: &T) -> Result<(), Difference> {
+fn same_answer<T: Plain>(what: &'static str, library: &T, due: &T) -> Result<(), Failure> {
     same(what, library.bytes(), due.bytes(), decimal)
 }
 
 /// Whether memory has the bytes that it should have.
-fn same_bytes(what: &'static str, library: &[u8], due: &[u8]) -> Result<(), Difference> {
+fn same_bytes(what: &'static str, library: &[u8], due: &[u8]) -> Result<(), Failure> {
     same(what, library, due, hex)
 }
 
@@ -197,16 +189,16 @@ fn same(
     library: &[u8],
     due: &[u8],
     shown: fn(&[u8]) -> String,
-) -> Result<(), Difference> {
+) -> Result<(), Failure> {
     if library == due {
         return Ok(());
     }
-    Err(Difference {
+    Err(Failure::Differs(Difference {
         what,
         library: library.to_vec(),
         due: due.to_vec(),
         shown,
-    })
+    }))
 }
 
 /// A chain whose n is valid, with zeros in its slots past n.

@@ -1,27 +1,144 @@
-//! The library's calls: as the header declares them, and as Rust functions.
+//! The library's calls, made through a command that is tests/calls.c at the other end of a socket.
 
-use yardstick::{Chain, ChainAnswer, LengthAnswer};
+use crate::lent::Lent;
+use crate::plain::Plain;
+use std::ffi::OsString;
+use std::fmt;
+use std::io::{self, BufReader, ErrorKind, Read, Write};
+use std::os::fd::OwnedFd;
+use std::os::unix::net::UnixStream;
+use std::process::{Child, Command};
+use std::time::Duration;
+use yardstick::{packed_length, Chain, ChainAnswer, LengthAnswer, MAX_QUEUES};
 
-extern "C" {
-    pub fn ardenquill_read(file: *const u8, file_length: usize) -> ChainAnswer;
-    pub fn ardenquill_write(chain: Chain, out: *mut u8, out_length: usize) -> LengthAnswer;
-    pub fn ardenquill_factory(number: u32) -> ChainAnswer;
+/// How long the command may take to go on with a request or an answer.
+const PATIENCE: Duration = Duration::from_secs(60);
+
+/// Why the command gives no more answers.
+pub struct Lost(String);
+
+impl fmt::Display for Lost {
+    /// What happened to the command.
+    fn fmt(&self, line: &mut fmt::Formatter) -> fmt::Result {
+        write!(line, "the command {}", self.0)
+    }
 }
 
-/// The chain of a file.
-pub fn read(file: &[u8]) -> ChainAnswer {
-    // SAFETY: pointer and length are those of a slice, which the call only reads.
-    unsafe { ardenquill_read(file.as_ptr(), file.len()) }
+impl From<io::Error> for Lost {
+    /// What an error on the socket says about the command.
+    fn from(error: io::Error) -> Self {
+        Lost(match error.kind() {
+            ErrorKind::UnexpectedEof | ErrorKind::BrokenPipe | ErrorKind::ConnectionReset => {
+                "ended before its answer did".to_string()
+            }
+            ErrorKind::WouldBlock | ErrorKind::TimedOut => {
+                format!("has been silent for {} seconds", PATIENCE.as_secs())
+            }
+            _ => format!("can't be talked to: {error}"),
+        })
+    }
 }
 
-/// The packed file of a chain, at the start of `out`.
-pub fn write(chain: &Chain, out: &mut [u8]) -> LengthAnswer {
-    // SAFETY: pointer and length are those of a slice that is lent for the call.
-    unsafe { ardenquill_write(*chain, out.as_mut_ptr(), out.len()) }
+/// What the calls gave on memory that is too large to be sent.
+pub struct Large {
+    /// The answer of writing a chain to the memory.
+    pub written: LengthAnswer,
+    /// The first bytes of the memory after that.
+    pub first: Vec<u8>,
+    /// The answer of reading the memory after that.
+    pub read: ChainAnswer,
 }
 
-/// The factory chain of a number.
-pub fn factory(number: u32) -> ChainAnswer {
-    // SAFETY: the call takes and gives values only.
-    unsafe { ardenquill_factory(number) }
+/// A command that makes the library's calls.
+pub struct Library {
+    command: Child,
+    socket: BufReader<UnixStream>,
+}
+
+impl Library {
+    /// Starts the command of some words.
+    pub fn start(words: &[OsString]) -> Result<Self, Lost> {
+        let (socket, theirs) = UnixStream::pair()?;
+        socket.set_read_timeout(Some(PATIENCE))?;
+        socket.set_write_timeout(Some(PATIENCE))?;
+        let command = Command::new(&words[0])
+            .args(&words[1..])
+            .stdin(OwnedFd::from(theirs.try_clone()?))
+            .stdout(OwnedFd::from(theirs))
+            .spawn()
+            .map_err(|error| Lost(format!("can't be started: {error}")))?;
+        Ok(Library {
+            command,
+            socket: BufReader::new(socket),
+        })
+    }
+
+    /// The chain of a file.
+    pub fn read(&mut self, file: &mut Lent) -> Result<ChainAnswer, Lost> {
+        self.ask(&[b"r", &lengths(file), &file.memory])?;
+        let mut answer = ChainAnswer::default();
+        self.take(answer.bytes_mut())?;
+        self.take(&mut file.memory)?;
+        Ok(answer)
+    }
+
+    /// The packed file of a chain, at the start of `out`.
+    pub fn write(&mut self, chain: &Chain, out: &mut Lent) -> Result<LengthAnswer, Lost> {
+        self.ask(&[b"w", chain.bytes(), &lengths(out), &out.memory])?;
+        let mut answer = LengthAnswer::default();
+        self.take(answer.bytes_mut())?;
+        self.take(&mut out.memory)?;
+        Ok(answer)
+    }
+
+    /// The factory chain of a number.
+    pub fn factory(&mut self, number: u32) -> Result<ChainAnswer, Lost> {
+        self.ask(&[b"f", &number.to_le_bytes()])?;
+        let mut answer = ChainAnswer::default();
+        self.take(answer.bytes_mut())?;
+        Ok(answer)
+    }
+
+    /// Writes a chain to so many zero bytes and reads them; nothing if they can't be had.
+    pub fn large(&mut self, chain: &Chain, length: u64) -> Result<Option<Large>, Lost> {
+        self.ask(&[b"l", chain.bytes(), &length.to_le_bytes()])?;
+        let mut had = [0];
+        self.take(&mut had)?;
+        if had == [0] {
+            return Ok(None);
+        }
+        let mut large = Large {
+            written: LengthAnswer::default(),
+            first: vec![0; packed_length(MAX_QUEUES)],
+            read: ChainAnswer::default(),
+        };
+        self.take(large.written.bytes_mut())?;
+        self.take(&mut large.first)?;
+        self.take(large.read.bytes_mut())?;
+        Ok(Some(large))
+    }
+
+    /// Sends a request.
+    fn ask(&mut self, parts: &[&[u8]]) -> Result<(), Lost> {
+        Ok(self.socket.get_mut().write_all(&parts.concat())?)
+    }
+
+    /// Takes bytes of an answer.
+    fn take(&mut self, bytes: &mut [u8]) -> Result<(), Lost> {
+        Ok(self.socket.read_exact(bytes)?)
+    }
+}
+
+impl Drop for Library {
+    /// Ends the command, which has nothing to keep; one that has ended already is left alone.
+    fn drop(&mut self) {
+        let _ = self.command.kill();
+        let _ = self.command.wait();
+    }
+}
+
+/// The lengths of lent memory as a request has them.
+fn lengths(lent: &Lent) -> Vec<u8> {
+    let lengths = lent.lengths().map(|length| length as u64);
+    lengths.into_iter().flat_map(u64::to_le_bytes).collect()
 }

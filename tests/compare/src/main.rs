@@ -1,28 +1,35 @@
 //! Compares the library with the yardstick on both sides of every limit and on seeded random
 //! inputs:
-//!     compare [SEED]
-//! The last line is `N passed, M failed`, N being the inputs on which the two agree.
+//!     compare [--seed N] COMMAND WORDS
+//! The command runs tests/calls.c, which has the library's calls. The last line is `N passed, M
+//! failed`, N being the inputs on which the two agree.
 
 mod comparison;
 mod files;
+mod lent;
+mod library;
+mod plain;
 mod records;
 mod tally;
 
 use compare::chains::wide;
 use compare::random::Random;
-use comparison::{hex, Difference, Plain};
+use comparison::{hex, Failure};
+use library::{Library, Lost};
+use plain::Plain;
 use records::Record;
-use std::alloc::{alloc_zeroed, Layout};
 use std::env;
+use std::ffi::OsString;
 use std::process::ExitCode;
 use tally::Tally;
+use yardstick::packed_length;
 
 /// The seed of a run that is given none.
 const SEED: u64 = 1;
 
 /// The random files, records and factory numbers of a run.
-const FILES: usize = 500_000;
-const RECORDS: usize = 400_000;
+const FILES: usize = 300_000;
+const RECORDS: usize = 250_000;
 const FACTORY_NUMBERS: usize = 20_000;
 
 /// The fewest inputs that make a run.
@@ -33,6 +40,7 @@ const SHOWN: u64 = 5;
 
 /// A run so far.
 struct Run {
+    library: Library,
     random: Random,
     reads: Tally,
     writes: Tally,
@@ -43,8 +51,9 @@ struct Run {
 
 impl Run {
     /// A run that has compared nothing yet.
-    fn new(seed: u64) -> Self {
+    fn new(library: Library, seed: u64) -> Self {
         Run {
+            library,
             random: Random::new(seed),
             reads: Tally::default(),
             writes: Tally::default(),
@@ -54,94 +63,139 @@ impl Run {
         }
     }
 
+    /// Compares everything, and gives how much passed and how much failed.
+    fn whole(mut self) -> (u64, u64) {
+        match self.compare() {
+            Ok(()) => self.close(),
+            Err(lost) => {
+                println!("failed: {lost}");
+                self.failed += 1;
+            }
+        }
+        (self.passed, self.failed)
+    }
+
+    /// Compares the calls one after the other.
+    fn compare(&mut self) -> Result<(), Lost> {
+        self.compare_reads()?;
+        self.compare_writes()?;
+        self.compare_factories()?;
+        self.compare_large()
+    }
+
     /// Compares the reader on files.
-    fn compare_reads(&mut self) {
+    fn compare_reads(&mut self) -> Result<(), Lost> {
         for file in files::limits(&mut self.random) {
-            self.compare_read(&file);
+            self.compare_read(&file)?;
         }
         for _ in 0..FILES {
             let file = files::any(&mut self.random);
-            self.compare_read(&file);
+            self.compare_read(&file)?;
         }
+        Ok(())
     }
 
     /// Compares the reader on one file.
-    fn compare_read(&mut self, file: &[u8]) {
-        let result = comparison::read(&mut self.reads, &mut self.random, file);
+    fn compare_read(&mut self, file: &[u8]) -> Result<(), Lost> {
+        let result = comparison::read(&mut self.library, &mut self.reads, &mut self.random, file);
         self.settle(result, || {
             format!("read, {} bytes: {}", file.len(), hex(file))
-        });
+        })
     }
 
     /// Compares the writer on records.
-    fn compare_writes(&mut self) {
+    fn compare_writes(&mut self) -> Result<(), Lost> {
         for record in records::limits(&mut self.random) {
-            self.compare_write(&record);
+            self.compare_write(&record)?;
         }
         for _ in 0..RECORDS {
             let record = records::any(&mut self.random);
-            self.compare_write(&record);
+            self.compare_write(&record)?;
         }
+        Ok(())
     }
 
     /// Compares the writer on one record.
-    fn compare_write(&mut self, record: &Record) {
-        let result = comparison::write(&mut self.writes, &mut self.random, record);
+    fn compare_write(&mut self, record: &Record) -> Result<(), Lost> {
+        let result = comparison::write(
+            &mut self.library,
+            &mut self.writes,
+            &mut self.random,
+            record,
+        );
         self.settle(result, || {
             format!("write, room {}: {}", record.room, hex(record.chain.bytes()))
-        });
+        })
     }
 
     /// Compares the factory chains on the numbers around the last one, around the powers of two and
     /// on random ones.
-    fn compare_factories(&mut self) {
+    fn compare_factories(&mut self) -> Result<(), Lost> {
         let powers = (0..32)
             .map(|bit| 1u32 << bit)
             .flat_map(|power| [power - 1, power, power + 1]);
         for number in (0..=5).chain(powers).chain([u32::MAX - 1, u32::MAX]) {
-            self.compare_factory(number);
+            self.compare_factory(number)?;
         }
         for _ in 0..FACTORY_NUMBERS {
             let number = self.random.word();
-            self.compare_factory(number);
+            self.compare_factory(number)?;
         }
+        Ok(())
     }
 
     /// Compares one factory chain.
-    fn compare_factory(&mut self, number: u32) {
-        let result = comparison::factory(&mut self.factories, &mut self.random, number);
-        self.settle(result, || format!("factory: {number:08x}"));
+    fn compare_factory(&mut self, number: u32) -> Result<(), Lost> {
+        let result = comparison::factory(
+            &mut self.library,
+            &mut self.factories,
+            &mut self.random,
+            number,
+        );
+        self.settle(result, || format!("factory: {number:08x}"))
     }
 
     /// Compares reader and writer on lent memory whose length, cut to 32 bits, would be that of a
     /// packed file.
-    fn compare_large(&mut self) {
+    fn compare_large(&mut self) -> Result<(), Lost> {
         let chain = wide(1);
-        let Some(mut memory) = zeroed((1 << 32) + yardstick::packed_length(1)) else {
+        let length = (1 << 32) + packed_length(1) as u64;
+        let Some(large) = self.library.large(&chain, length)? else {
             println!("no memory of more than 2^32 bytes can be had: such lengths are not compared");
-            return;
+            return Ok(());
         };
-        let result = comparison::write_large(&mut self.writes, &chain, &mut memory);
+        let result = comparison::write_large(&mut self.writes, &chain, &large);
         self.settle(result, || {
-            format!("write, room above 2^32: {}", hex(chain.bytes()))
-        });
-        let result = comparison::read_large(&mut self.reads, &memory);
+            format!("write, room {length}: {}", hex(chain.bytes()))
+        })?;
+        let result = comparison::read_large(&mut self.reads, &large);
         self.settle(result, || {
-            format!("read, above 2^32 bytes: {}", hex(&memory))
-        });
+            format!("read, {length} bytes: {} and zeros", hex(&large.first))
+        })
     }
 
-    /// Counts one input, and shows what differed if it is among the first.
-    fn settle(&mut self, result: Result<(), Difference>, input: impl Fn() -> String) {
-        let Err(difference) = result else {
-            self.passed += 1;
-            return;
-        };
-        self.failed += 1;
-        if self.failed <= SHOWN {
-            println!("failed: {}", input());
-            println!("{difference}");
+    /// Counts one input that the library answered, and shows it if it is among the first on which
+    /// something differed or if the library was lost.
+    fn settle(
+        &mut self,
+        result: Result<(), Failure>,
+        input: impl Fn() -> String,
+    ) -> Result<(), Lost> {
+        match result {
+            Ok(()) => self.passed += 1,
+            Err(Failure::Differs(difference)) => {
+                self.failed += 1;
+                if self.failed <= SHOWN {
+                    println!("failed: {}", input());
+                    println!("{difference}");
+                }
+            }
+            Err(Failure::Lost(lost)) => {
+                println!("lost: {}", input());
+                return Err(lost);
+            }
         }
+        Ok(())
     }
 
     /// Prints what was seen, and counts as failed each number that a call never answered with and a
@@ -164,41 +218,33 @@ impl Run {
             println!("failed: fewer than {FEWEST} inputs");
             self.failed += 1;
         }
-        println!("{} passed, {} failed", self.passed, self.failed);
     }
 }
 
-/// Zero bytes that take no memory until they are touched, or nothing if the machine refuses them.
-fn zeroed(length: usize) -> Option<Vec<u8>> {
-    let layout = Layout::array::<u8>(length).ok()?;
-    // SAFETY: the length is not 0, and the memory has the layout that a vector of that capacity
-    // has.
-    unsafe {
-        let memory = alloc_zeroed(layout);
-        (!memory.is_null()).then(|| Vec::from_raw_parts(memory, length, length))
+/// The seed and the command that the arguments give.
+fn arguments() -> Option<(u64, Vec<OsString>)> {
+    let mut words: Vec<OsString> = env::args_os().skip(1).collect();
+    let mut seed = SEED;
+    if words.first()? == "--seed" {
+        seed = words.get(1)?.to_str()?.parse().ok()?;
+        words.drain(..2);
     }
-}
-
-/// The seed that the arguments give.
-fn seed_of(mut arguments: impl Iterator<Item = String>) -> Option<u64> {
-    match (arguments.next(), arguments.next()) {
-        (None, _) => Some(SEED),
-        (Some(seed), None) => seed.parse().ok(),
-        _ => None,
-    }
+    (!words.is_empty()).then_some((seed, words))
 }
 
 fn main() -> ExitCode {
-    let Some(seed) = seed_of(env::args().skip(1)) else {
-        eprintln!("usage: compare [SEED]");
+    let Some((seed, words)) = arguments() else {
+        eprintln!("usage: compare [--seed N] COMMAND WORDS");
         return ExitCode::from(2);
     };
     println!("seed {seed}");
-    let mut run = Run::new(seed);
-    run.compare_reads();
-    run.compare_writes();
-    run.compare_factories();
-    run.compare_large();
-    run.close();
-    ExitCode::from(u8::from(run.failed > 0))
+    let (passed, failed) = match Library::start(&words) {
+        Ok(library) => Run::new(library, seed).whole(),
+        Err(lost) => {
+            println!("failed: {lost}");
+            (0, 1)
+        }
+    };
+    println!("{passed} passed, {failed} failed");
+    ExitCode::from(u8::from(failed > 0))
 }

@@ -1,7 +1,8 @@
 use borrow.Author.Needs.{needs}
 use native.Mathlib.Omega.{arith}
 use Rattle.chain.specs.Refusals.{first, or-left, or-right}
-use Rattle.chain.specs.Checks.{chainRefusal, count-known, packed-tables}
+use Rattle.chain.specs.Checks.{chainRefusal, count-known}
+use Rattle.chain.proofs.Checking.{packed-tables}
 use Rattle.chain.proofs.checks.check_chain.Statement.{statement}
 use Rattle.chain.proofs.checks.check_chain.Tie as tie
 use Rattle.chain.proofs.checks.check_chain.Reads as reads

@@ -1,6 +1,6 @@
 use borrow.Author.Needs.{needs}
 use Rattle.chain.specs.Refusals.{first, or-left, or-right}
-use Rattle.chain.specs.Checks.{order-last}
+use Rattle.chain.proofs.Checking.{order-last}
 use Rattle.chain.proofs.checks.check_tables.Statement.{statement}
 use Rattle.chain.proofs.checks.check_tables.Tie as tie
 use Rattle.chain.proofs.checks.check_tables.Reads as reads

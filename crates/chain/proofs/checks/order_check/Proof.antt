@@ -3,7 +3,7 @@ use borrow.Author.Needs.{needs}
 use Prim.Native.Nat.{_-_}
 use Rattle.chain.specs.Record.{rowOf}
 use Rattle.chain.specs.Checks.{overdrawn, orderCheck}
-use Rattle.chain.specs.Refusals.{Scanned, scan-start, scan-more, scan-stop, scan-end}
+use Rattle.chain.proofs.Scan.{Scanned, scan-start, scan-more, scan-stop, scan-end}
 use Rattle.chain.proofs.checks.order_check.Statement.{statement}
 use Rattle.chain.proofs.checks.order_check.Tie as tie
 use Rattle.chain.proofs.checks.order_check.Reads as reads

@@ -1,6 +1,7 @@
 use borrow.Author.Needs.{needs}
 use Prim.Native.Nat.{_+_}
-use Rattle.chain.specs.Checks.{field, field-last}
+use Rattle.chain.specs.Checks.{field}
+use Rattle.chain.proofs.Checking.{field-last}
 use Rattle.chain.specs.Refusals.{first, or-left, or-right}
 use Rattle.chain.specs.Checks.{rowRange, rowFields}
 use Rattle.chain.proofs.checks.row_range.Statement.{statement}

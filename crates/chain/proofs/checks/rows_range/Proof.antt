@@ -3,7 +3,7 @@ use borrow.Author.Needs.{needs}
 use Prim.Native.Nat.{_-_}
 use Rattle.chain.specs.Record.{rowOf}
 use Rattle.chain.specs.Checks.{rowRange}
-use Rattle.chain.specs.Refusals.{Scanned, scan-start, scan-more, scan-stop, scan-end}
+use Rattle.chain.proofs.Scan.{Scanned, scan-start, scan-more, scan-stop, scan-end}
 use Rattle.chain.proofs.checks.rows_range.Statement.{statement}
 use Rattle.chain.proofs.checks.rows_range.Tie as tie
 use Rattle.chain.proofs.checks.rows_range.Reads as reads

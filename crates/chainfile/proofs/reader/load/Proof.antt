@@ -1,5 +1,5 @@
 use borrow.Author.Needs.{needs}
-use Rattle.chainfile.specs.File.{loaded}
+use Rattle.chainfile.proofs.Reading.{loaded}
 use Rattle.chainfile.proofs.reader.load.Statement.{statement}
 use Rattle.chainfile.proofs.reader.load.Tie as tie
 use Rattle.chainfile.proofs.reader.load.Reads as reads

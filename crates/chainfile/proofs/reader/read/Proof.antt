@@ -1,5 +1,6 @@
 use borrow.Author.Needs.{needs}
-use Rattle.chainfile.specs.File.{placed, loaded-tables, header-refused, rows-refused, read-done}
+use Rattle.chainfile.specs.Accepted.{placed}
+use Rattle.chainfile.proofs.Reading.{loaded-tables, header-refused, rows-refused, read-done}
 use Rattle.chainfile.proofs.reader.read.Statement.{statement}
 use Rattle.chainfile.proofs.reader.read.Tie as tie
 use Rattle.chainfile.proofs.reader.read.Reads as reads

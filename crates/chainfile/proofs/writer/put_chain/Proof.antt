@@ -2,7 +2,8 @@ use borrow.Author.Needs.{needs}
 use native.Mathlib.Omega.{arith}
 use Rattle.words.specs.Put.{puts-length}
 use Rattle.words.specs.Words.{bytesOf, bytes-length}
-use Rattle.chainfile.specs.Packed.{header, rows, rows-length, file-put}
+use Rattle.chainfile.specs.Packed.{header, rows, rows-length}
+use Rattle.chainfile.proofs.Writing.{file-put}
 use Rattle.chainfile.proofs.writer.put_chain.Statement.{statement}
 use Rattle.chainfile.proofs.writer.put_chain.Tie as tie
 use Rattle.chainfile.proofs.writer.put_chain.Reads as reads

@@ -3,7 +3,8 @@ use borrow.Author.Needs.{needs}
 use Prim.Native.Nat.{_≤_, _-_}
 use Rattle.words.specs.Put.{Puts, puts-length}
 use Rattle.words.specs.Words.{bytesOf, bytes-length}
-use Rattle.chainfile.specs.Packed.{rows, rows-length, table-start, table-put, table-end}
+use Rattle.chainfile.specs.Packed.{rows, rows-length}
+use Rattle.chainfile.proofs.Writing.{table-start, table-put, table-end}
 use Rattle.chainfile.proofs.writer.put_rows.Statement.{statement}
 use Rattle.chainfile.proofs.writer.put_rows.Tie as tie
 use Rattle.chainfile.proofs.writer.put_rows.Reads as reads

@@ -1,0 +1,33 @@
+//! The bytes of the structs that the library takes and gives.
+
+use std::mem::size_of;
+use std::slice;
+use yardstick::{Chain, ChainAnswer, LengthAnswer, MAX_QUEUES};
+
+/// A struct whose bytes are its fields.
+///
+/// # Safety
+/// Its fields must be integers in the order of `repr(C)`, and no byte may lie between or behind
+/// them.
+pub unsafe trait Plain: Sized {
+    /// The struct's bytes.
+    fn bytes(&self) -> &[u8] {
+        // SAFETY: every byte of the struct is a byte of one of its fields.
+        unsafe { slice::from_raw_parts((self as *const Self).cast(), size_of::<Self>()) }
+    }
+
+    /// The struct's bytes, to be changed.
+    fn bytes_mut(&mut self) -> &mut [u8] {
+        // SAFETY: as above, and a field may have any bytes.
+        unsafe { slice::from_raw_parts_mut((self as *mut Self).cast(), size_of::<Self>()) }
+    }
+}
+
+// SAFETY: by the sizes below, the fields, which are integers, leave no byte between them.
+unsafe impl Plain for Chain {}
+unsafe impl Plain for ChainAnswer {}
+unsafe impl Plain for LengthAnswer {}
+
+const _: () = assert!(size_of::<Chain>() == 4 * (2 + 5 * MAX_QUEUES + MAX_QUEUES));
+const _: () = assert!(size_of::<ChainAnswer>() == 4 + 4 + size_of::<Chain>());
+const _: () = assert!(size_of::<LengthAnswer>() == 4 + 4 + 8);
