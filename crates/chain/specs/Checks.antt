@@ -12,20 +12,20 @@
 --   count-exact, range-exact, order-exact
 --                              each check speaks exactly under its condition
 --   Sound c, sound             what a chain that no check refuses is, both ways
-use mathlib.Core.Path.{_≡_, refl, sym, ap, ap₂, _∙_}
+use mathlib.Core.Path.{_≡_, sym, ap, ap₂, _∙_}
 use mathlib.Core.Bool.{true}
 use mathlib.Core.Logic.{_↔_, Iff·trans, Iff·and, Iff·rfl}
 use mathlib.Core.List.{List, [], _∷_, _++_, map, map-append}
-use Prim.Native.Nat.{ℕ, zero, suc, _+_, _*_, _≤_, _<_}
+use Prim.Native.Nat.{ℕ, _+_, _*_, _≤_, _<_}
 use native.Mathlib.Omega.{arith}
 use lib.Dec.{ltb}
-use borrow.Author.Tests.{lt-ltb, le-ltb, ltb-true, ltb-false}
+use borrow.Author.Tests.{lt-ltb, ltb-true}
 use lib.ListN.{length, getD, length-map, List·getD-map}
 use Rattle.words.specs.Flat.{flat}
-use Rattle.words.specs.Table.{tab, length-tab, tab-at}
+use Rattle.words.specs.Table.{tab}
 use Rattle.words.specs.declared.Queue.{Queue}
-use Rattle.chain.specs.Tests.{outside, Out, In, outside-true, outside-false, below-true, below-false}
-use Rattle.chain.specs.Refusals.{refused, fine, test, first, Silent, Silents, First, first-is, Lowest, lowest-is, first-silent, silents-at, silents-all, Only, only-test, only-map, only-tab, first-append, first-flat, map-tab, orElse, or-silents, all-silent, test-exact, test-silent, test-alone, first-last}
+use Rattle.chain.specs.Tests.{outside, Out, In, outside-true, outside-false, below-false}
+use Rattle.chain.specs.Refusals.{refused, fine, test, first, Silent, Silents, First, first-is, Lowest, lowest-is, first-silent, Only, only-test, only-map, only-tab, first-append, first-flat, map-tab, orElse, or-silents, all-silent, test-exact, test-silent}
 use Rattle.chain.specs.Record.{rowOf, workOf}
 use Rattle.chain.specs.declared.Refusal.{Refusal}
 use Rattle.chain.specs.declared.Chain.{Chain}

@@ -5,7 +5,7 @@
 --   factoryCheck k     14: no such factory chain
 --   factoryAnswer k    what the factory answers to any number
 --   factory-exact      14 is said exactly under its condition
-use mathlib.Core.Path.{_≡_, refl}
+use mathlib.Core.Path.{_≡_}
 use mathlib.Core.Logic.{_↔_, Iff·trans, Iff·and, Iff·rfl}
 use mathlib.Core.List.{List, [], _∷_}
 use Prim.Native.Nat.{ℕ, _<_}

@@ -6,17 +6,16 @@
 --   answered-refused, -fine  its two cases, as code has them
 --   same-chain               chains of equal parts are equal
 --   trimmed-answer           the chain of an answer has its slots past n zero where the chain made has
-use mathlib.Core.Path.{_≡_, refl, sym, ap, _∙_}
+use mathlib.Core.Path.{_≡_, refl}
 use mathlib.Core.Bool.{Bool, true, false, cond}
-use mathlib.Core.List.{List}
 use Prim.Native.Nat.{ℕ}
 use lib.Dec.{eqb}
-use borrow.Author.Tests.{eq-eqb, ne-eqb}
+use borrow.Author.Tests.{ne-eqb}
 use lib.ListN.{getD, replicate}
 use Rattle.words.specs.Rows.{none}
 use Rattle.words.specs.Table.{tab, slots}
 use Rattle.words.specs.declared.Queue.{Queue}
-use Rattle.chain.specs.Refusals.{refused, fine, Silent}
+use Rattle.chain.specs.Refusals.{fine, Silent}
 use Rattle.chain.specs.declared.Refusal.{Refusal}
 use Rattle.chain.specs.declared.Chain.{Chain}
 use Rattle.chain.specs.declared.ChainAnswer.{ChainAnswer}

@@ -7,7 +7,7 @@ ghost use Rattle.words.specs.Table.{tab};
 ghost use Rattle.chain.specs.Tests.{outside};
 ghost use Rattle.chain.specs.Refusals.{test, first};
 ghost use Rattle.chain.specs.Record.{rowOf, workOf};
-ghost use Rattle.chain.specs.Checks.{countCheck, field, outOfRange, rowRange, nodeRange, rangeCheck, overdrawn, orderCheck, chainRefusal, Row, Table, Tables};
+ghost use Rattle.chain.specs.Checks.{countCheck, field, outOfRange, rowRange, nodeRange, rangeCheck, orderCheck, chainRefusal, Row, Table, Tables};
 use crate::Chain;
 use crate::Refusal;
 use words::Queue;

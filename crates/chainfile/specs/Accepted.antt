@@ -7,7 +7,7 @@
 --   write-accepts          the writer accepts exactly a sound chain that fits
 --   read-fine, write-fine  a call that is silent answers number 0 with place 0
 --   touch                  tables that touch do not overlap
-use mathlib.Core.Path.{_≡_, refl, sym, ap, _∙_}
+use mathlib.Core.Path.{_≡_, refl, sym, _∙_}
 use mathlib.Core.Bool.{Bool, true, false, _&&_}
 use mathlib.Core.Logic.{_↔_, Iff·trans}
 use mathlib.Core.List.{List, [], _∷_}
@@ -19,7 +19,7 @@ use borrow.Author.Tests.{le-ltb}
 use lib.ListN.{length}
 use Rattle.chain.specs.Tests.{In, below-false}
 use Rattle.chain.specs.Refusals.{fine, test, first, Silent, Silents, number-of, first-fine, first-silent, test-silent}
-use Rattle.chain.specs.Checks.{countCheck, count-silent, recordRange, recordOrder, Sound, sound-is, Table, Tables}
+use Rattle.chain.specs.Checks.{countCheck, count-silent, recordRange, recordOrder, Sound, sound-is, Tables}
 use Rattle.chain.specs.declared.Refusal.{Refusal}
 use Rattle.chain.specs.declared.Chain.{Chain}
 use Rattle.chainfile.specs.File.{countOf, queuesAt, nodesAt, totalOf, chainOf, lengthCheck, misplaced, overlap, offsetTests, offsetCheck, fileOffsets, fileRange, fileOrder, readChecks, readRefusal, length-silent, GoodTable, good-table}

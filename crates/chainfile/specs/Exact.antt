@@ -8,7 +8,7 @@ use Prim.Native.Nat.{ℕ, _+_, _*_, _<_}
 use native.Mathlib.Omega.{arith}
 use lib.ListN.{length, getD, take}
 use Rattle.chain.specs.Tests.{Out, under}
-use Rattle.chain.specs.Refusals.{refused, fine, first, Silents, Numbered, exact-at}
+use Rattle.chain.specs.Refusals.{refused, fine, Silents, Numbered, exact-at}
 use Rattle.chain.specs.Checks.{countCheck, recordRange, recordOrder, fields, FirstOut, FirstOver, count-exact, count-silent, range-exact, order-exact, count-only, range-only, order-only}
 use Rattle.chain.specs.declared.Chain.{Chain}
 use Rattle.chainfile.specs.File.{countOf, queuesAt, nodesAt, chainOf, lengthCheck, fileOffsets, fileRange, readChecks, readRefusal, BadLength, Misplaced, length-exact, offset-exact, length-only, offset-only}

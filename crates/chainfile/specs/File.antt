@@ -13,22 +13,21 @@
 --                              01's condition of 3, in words
 --   length-exact, offset-exact each check speaks exactly under its condition
 --   Placed f, placed           what 1, 2 and 3 leave to be known of a file
-use mathlib.Core.Path.{_≡_, refl, sym, ap, ap₂, _∙_}
+use mathlib.Core.Path.{_≡_}
 use mathlib.Core.Bool.{Bool, true, false, _||_, _&&_, not}
-use mathlib.Core.Logic.{_↔_, _≢_, _⊎_, inl, inr, ⊎-elim, Iff·trans, Iff·and, Iff·rfl}
+use mathlib.Core.Logic.{_↔_, _≢_, _⊎_, Iff·trans, Iff·and, Iff·rfl}
 use mathlib.Core.List.{List, [], _∷_}
 use Prim.Native.Nat.{ℕ, _+_, _*_, _%_, _≤_, _<_, max}
 use native.Mathlib.Omega.{arith}
 use lib.Dec.{ltb, eqb}
 use lib.ListN.{length}
 use Rattle.words.specs.Rows.{none, rowAt}
-use Rattle.words.specs.Table.{tab, slots}
+use Rattle.words.specs.Table.{slots}
 use Rattle.words.specs.Words.{wordAt}
-use Rattle.words.specs.declared.Queue.{Queue}
-use Rattle.chain.specs.Refusals.{refused, test, first, first-last, orElse, Silent, Silents, Only, only-test, only-fine, only-or, test-exact, test-silent, first-fine, first-silent, first-append, or-left, or-right, or-says, says-last}
-use Rattle.chain.specs.Record.{emptyChain, answered, answered-refused, answered-fine}
+use Rattle.chain.specs.Refusals.{refused, test, first, Silent, Only, only-test, only-fine, only-or, test-exact, test-silent, or-says, says-last}
+use Rattle.chain.specs.Record.{answered}
 use Rattle.chain.specs.Tests.{outside, Out, In, outside-true, outside-false, or-true, or-false, and-true, sum-iff, below-true, below-false, differ-true, differ-false}
-use Rattle.chain.specs.Checks.{countCheck, count-silent, rangeCheck, orderCheck, Table, Tables}
+use Rattle.chain.specs.Checks.{countCheck, rangeCheck, orderCheck}
 use Rattle.chain.specs.declared.Refusal.{Refusal}
 use Rattle.chain.specs.declared.Chain.{Chain}
 use Rattle.chain.specs.declared.ChainAnswer.{ChainAnswer}

@@ -9,23 +9,21 @@
 --   Output r t o p a     what a call that writes a text t into lent bytes o answers and leaves there, its refusal being r
 --   output-fine          what it is where nothing is refused
 --   room-exact           10 is said exactly under its condition
-use mathlib.Core.Path.{_≡_, refl, sym, ap, _∙_}
+use mathlib.Core.Path.{_≡_, refl, ap, _∙_}
 use mathlib.Core.Bool.{cond}
 use mathlib.Core.Logic.{_↔_, Iff·trans, Iff·and, Iff·rfl}
 use mathlib.Core.List.{List, [], _∷_, _++_}
 use Prim.Native.Nat.{ℕ, _+_, _*_, _≤_, _<_}
 use native.Mathlib.Omega.{arith}
 use lib.Dec.{ltb, eqb}
-use borrow.Author.Tests.{eq-eqb, ne-eqb, lt-ltb, le-ltb}
 use lib.ListN.{length, drop, length-append}
-use Rattle.words.specs.Put.{Puts, puts-none, put-front}
-use Rattle.words.specs.Flat.{flat, flat-more, flat-length}
+use Rattle.words.specs.Flat.{flat, flat-length}
 use Rattle.words.specs.Words.{bytesOf, bytes-append, bytes-length}
 use Rattle.words.specs.Rows.{row}
 use Rattle.chain.specs.Tests.{below-true}
-use Rattle.chain.specs.Refusals.{refused, fine, test, first, orElse, Silent, Only, only-test, test-exact, first-append}
+use Rattle.chain.specs.Refusals.{refused, fine, test, first, Only, only-test, test-exact}
 use Rattle.chain.specs.Record.{rowOf, workOf}
-use Rattle.chain.specs.Checks.{countCheck, rangeCheck, orderCheck, recordRange, recordOrder, chainRefusal}
+use Rattle.chain.specs.Checks.{countCheck, rangeCheck, orderCheck, recordRange, recordOrder}
 use Rattle.chain.specs.declared.Refusal.{Refusal}
 use Rattle.chain.specs.declared.Chain.{Chain}
 use Rattle.chainfile.specs.declared.LengthAnswer.{LengthAnswer}

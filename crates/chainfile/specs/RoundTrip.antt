@@ -7,29 +7,23 @@
 --   packed-again                       which is the file itself where that was packed
 --   ignored                            "Bytes in neither header nor table are ignored"
 use mathlib.Core.Path.{_≡_, refl, sym, ap, ap₂, _∙_}
-use mathlib.Core.Bool.{Bool, true, false, cond, _&&_}
-use mathlib.Core.Logic.{_↔_, Iff·trans}
 use mathlib.Core.List.{List, [], _∷_, _++_}
 use Prim.Native.Nat.{ℕ, zero, suc, _+_, _*_, _^_, _≤_, _<_}
-use native.Mathlib.Nat.{le-refl, add-zero}
+use native.Mathlib.Nat.{add-zero}
 use native.Mathlib.Omega.{arith}
-use lib.Dec.{ltb, eqb}
-use borrow.Author.Tests.{le-ltb}
 use lib.ListN.{length, getD, take, drop, List·getD-append}
 use lib.Seq.{getD-append-add, take-at, take-all}
 use Rattle.words.specs.Flat.{flat, flat-at}
 use Rattle.words.specs.Table.{slot-used, slots-alike, slots-again}
-use Rattle.words.specs.Words.{bytesOf, wordAt, bytes-append, bytes-length, word-at, Bytes, part, part-add, word-back, Alike, word-alike}
+use Rattle.words.specs.Words.{bytesOf, wordAt, bytes-length, word-at, Bytes, part, part-add, word-back, Alike, word-alike}
 use Rattle.words.specs.Rows.{none, row, rowAt, row-there, same-row, table-back, row-back, row-alike}
 use Rattle.words.specs.declared.Queue.{Queue}
-use Rattle.chain.specs.Refusals.{fine, test, first, Silent, Silents, first-fine, first-silent, test-silent}
+use Rattle.chain.specs.Refusals.{first, Silent}
 use Rattle.chain.specs.Record.{rowOf, workOf, emptyChain, trimmed, answered, answered-fine, same-chain, trimmed-answer}
-use Rattle.chain.specs.Tests.{below-false}
-use Rattle.chain.specs.Checks.{countCheck, rangeCheck, orderCheck, SoundRow, Sound, sound-is}
+use Rattle.chain.specs.Checks.{SoundRow, Sound}
 use Rattle.chain.specs.Factory.{factoryChains, factoryRefusal, factoryAnswer}
-use Rattle.chain.specs.declared.Refusal.{Refusal}
 use Rattle.chain.specs.declared.Chain.{Chain}
-use Rattle.chainfile.specs.File.{countOf, periodOf, queuesAt, nodesAt, totalOf, chainOf, lengthCheck, misplaced, overlap, offsetTests, offsetCheck, readChecks, readRefusal, readAnswer}
+use Rattle.chainfile.specs.File.{countOf, periodOf, queuesAt, nodesAt, totalOf, chainOf, readChecks, readRefusal, readAnswer}
 use Rattle.chainfile.specs.Accepted.{Placed, Accepted, read-accepts, write-accepts, read-fine, write-fine, touch}
 use Rattle.chainfile.specs.Packed.{packedLength, header, rows, nodes, words, packed, writeRefusal, Output, output-fine, rows-length, packed-length, packed-parts}
 use Rattle.chainfile.specs.declared.LengthAnswer.{LengthAnswer}

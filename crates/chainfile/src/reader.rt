@@ -3,14 +3,14 @@
 ghost use mathlib.Core.Path.{_≡_};
 ghost use mathlib.Core.Bool.{_||_, _&&_, not};
 ghost use Prim.Native.Nat.{_+_, _*_, _%_};
-ghost use lib.Dec.{ltb, eqb};
+ghost use lib.Dec.{eqb};
 ghost use lib.ListN.{length};
 ghost use Rattle.words.specs.Words.{wordAt};
 ghost use Rattle.words.specs.Rows.{none, rowAt};
 ghost use Rattle.words.specs.Table.{slots};
 ghost use Rattle.chain.specs.Tests.{outside};
 ghost use Rattle.chain.specs.Checks.{Table};
-ghost use Rattle.chainfile.specs.File.{totalOf, lengthCheck, misplaced, overlap, offsetCheck, chainOf, readAnswer};
+ghost use Rattle.chainfile.specs.File.{totalOf, misplaced, overlap, offsetCheck, chainOf, readAnswer};
 ghost use Rattle.chainfile.specs.Accepted.{headerRefusal, Placed};
 use chain::Chain;
 use chain::ChainAnswer;

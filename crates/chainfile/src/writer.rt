@@ -1,5 +1,4 @@
 // The writer of the packed file: checks 2, 4, 5 and 10, then header, queue table and node table into the lent bytes.
-ghost use mathlib.Core.Path.{_≡_};
 ghost use Prim.Native.Nat.{_+_, _*_};
 ghost use lib.ListN.{length};
 ghost use Rattle.words.specs.Put.{Puts};

@@ -5,7 +5,7 @@
 --   flat-at        and what stands at w * i + j is f i's element j
 use mathlib.Core.Path.{_≡_, sym, ap, _∙_}
 use mathlib.Core.Logic.{⊎-elim}
-use mathlib.Core.List.{List, [], _∷_, _++_}
+use mathlib.Core.List.{List, [], _++_}
 use Prim.Native.Nat.{ℕ, zero, suc, _+_, _*_, _≤_, _<_}
 use native.Mathlib.Nat.{not-suc-le-zero, eq-or-lt-of-le, mul-suc, mul-zero, mul-le-mul-left}
 use native.Mathlib.Omega.{arith}

@@ -1,22 +1,16 @@
+-- `chain::checks::count_check` meets its contract: what `test` and `outside` ensure.
 use borrow.Author.Needs.{needs}
 use mathlib.Core.Path.{_∙_, ap}
 use Rattle.chain.specs.Refusals.{test}
 use Rattle.chain.proofs.checks.count_check.Statement.{statement}
 use Rattle.chain.proofs.checks.count_check.Tie as tie
-use Rattle.chain.proofs.checks.count_check.Reads as reads
-use Rattle.chain.proofs.checks.count_check.Lts as lts
-use Rattle.chain.proofs.checks.outside.Reads as outside-reads
-use Rattle.chain.proofs.checks.test.Reads as test-reads
 
--- src/checks.rt:34:16
 outside-requires : tie.Need-outside-requires
 outside-requires c κs = search needs
 
--- src/checks.rt:34:5
 test-requires : tie.Need-test-requires
 test-requires c κs = search needs
 
--- src/checks.rt:31:1
 returns : tie.Need-returns
 returns c = c .test .ensures ∙ ap (test 2 0) (c .before .outside .ensures)
 

@@ -1,4 +1,4 @@
-use native.Mathlib.Omega.{arith}
+-- `chain::checks::nodes_range` meets its contract: the scan of a table whose rows are 4 bytes wide.
 use borrow.Author.Needs.{needs}
 use Prim.Native.Nat.{_-_}
 use Rattle.chain.specs.Record.{workOf}
@@ -6,9 +6,6 @@ use Rattle.chain.specs.Checks.{nodeRange}
 use Rattle.chain.proofs.Scan.{Scanned, scan-start, scan-more, scan-stop, scan-end}
 use Rattle.chain.proofs.checks.nodes_range.Statement.{statement}
 use Rattle.chain.proofs.checks.nodes_range.Tie as tie
-use Rattle.chain.proofs.checks.nodes_range.Reads as reads
-use Rattle.chain.proofs.checks.nodes_range.Lts as lts
-use Rattle.chain.proofs.checks.field_check.Reads as field-check-reads
 
 abbrev Inv-loop : tie.InvT-loop
 Inv-loop w chain n i₀ at₀ i at = Scanned (λ j. nodeRange (workOf chain j)) n w 4 i at
@@ -16,47 +13,36 @@ Inv-loop w chain n i₀ at₀ i at = Scanned (λ j. nodeRange (workOf chain j)) 
 abbrev μ-loop : tie.MeasureT-loop
 μ-loop w chain n i₀ at₀ i at = n - i
 
--- src/checks.rt:90:13
 cast-n : tie.Need-cast-n Inv-loop μ-loop
 cast-n c = search needs
 
--- src/checks.rt:93:5
 loop-holds : tie.Need-loop-holds Inv-loop μ-loop
 loop-holds c = scan-start _ _ _ _
 
--- src/checks.rt:94:17
 mul-e : tie.Need-mul-e Inv-loop μ-loop
 mul-e c = search needs
 
--- src/checks.rt:94:17
 element-copy-out-e : tie.Need-element-copy-out-e Inv-loop μ-loop
 element-copy-out-e c = search needs
 
--- src/checks.rt:95:13
 field-check-requires : tie.Need-field-check-requires Inv-loop μ-loop
 field-check-requires c κs = search needs
 
--- src/checks.rt:97:13
 returns : tie.Need-returns Inv-loop μ-loop
 returns c = scan-stop _ _ _ _ (c .before .before .before .before .before .loop .inv) (c .before .before .before .before .loop-test .taken) (c .before .before .field-check .ensures) (c .if1 .taken)
 
--- src/checks.rt:99:9
 add-i : tie.Need-add-i Inv-loop μ-loop
 add-i c = search needs
 
--- src/checks.rt:100:9
 add-at : tie.Need-add-at Inv-loop μ-loop
 add-at c = search needs
 
--- src/checks.rt:93:5
 loop-less : tie.Need-loop-less Inv-loop μ-loop
 loop-less c = search needs
 
--- src/checks.rt:93:5
 loop-again : tie.Need-loop-again Inv-loop μ-loop
 loop-again c = scan-more _ _ _ _ (c .before .before .before .before .before .loop .inv) (c .before .before .before .before .loop-test .taken) (c .before .before .field-check .ensures) (c .if1 .left)
 
--- src/checks.rt:86:1
 returns-2 : tie.Need-returns-2 Inv-loop μ-loop
 returns-2 c = scan-end _ _ _ _ (c .before .loop .inv) (c .loop-test .left)
 

@@ -1,3 +1,4 @@
+-- `chain::checks::row_range` meets its contract: each field is the first that speaks, or is silent and the next one is asked.
 use borrow.Author.Needs.{needs}
 use Prim.Native.Nat.{_+_}
 use Rattle.chain.specs.Checks.{field}
@@ -6,67 +7,50 @@ use Rattle.chain.specs.Refusals.{first, or-left, or-right}
 use Rattle.chain.specs.Checks.{rowRange, rowFields}
 use Rattle.chain.proofs.checks.row_range.Statement.{statement}
 use Rattle.chain.proofs.checks.row_range.Tie as tie
-use Rattle.chain.proofs.checks.row_range.Reads as reads
-use Rattle.chain.proofs.checks.row_range.Lts as lts
-use Rattle.chain.proofs.checks.field_check.Reads as field-check-reads
 
--- src/checks.rt:130:9
 field-check-requires : tie.Need-field-check-requires
 field-check-requires c κs = search needs
 
--- src/checks.rt:132:9
 returns : tie.Need-returns
 unfolding rowRange rowFields first
 returns c = or-left _ (c .before .before .field-check .ensures) (c .if1 .taken)
 
--- src/checks.rt:134:33
 add-field-check : tie.Need-add-field-check
 add-field-check c = search needs
 
--- src/checks.rt:134:9
 field-check-requires-2 : tie.Need-field-check-requires-2
 field-check-requires-2 c κs = search needs
 
--- src/checks.rt:136:9
 returns-2 : tie.Need-returns-2
 unfolding rowRange rowFields first
 returns-2 c = or-right (c .before .before .before .before .before .field-check .ensures) (c .before .before .before .if1 .left) (or-left _ (c .before .before .field-check2 .ensures) (c .if2 .taken))
 
--- src/checks.rt:138:31
 add-field-check-2 : tie.Need-add-field-check-2
 add-field-check-2 c = search needs
 
--- src/checks.rt:138:9
 field-check-requires-3 : tie.Need-field-check-requires-3
 field-check-requires-3 c κs = search needs
 
--- src/checks.rt:140:9
 returns-3 : tie.Need-returns-3
 unfolding rowRange rowFields first
 returns-3 c = or-right (c .before .before .before .before .before .before .before .before .field-check .ensures) (c .before .before .before .before .before .before .if1 .left) (or-right (c .before .before .before .before .before .field-check2 .ensures) (c .before .before .before .if2 .left) (or-left _ (c .before .before .field-check3 .ensures) (c .if3 .taken)))
 
--- src/checks.rt:142:32
 add-field-check-3 : tie.Need-add-field-check-3
 add-field-check-3 c = search needs
 
--- src/checks.rt:142:9
 field-check-requires-4 : tie.Need-field-check-requires-4
 field-check-requires-4 c κs = search needs
 
--- src/checks.rt:144:9
 returns-4 : tie.Need-returns-4
 unfolding rowRange rowFields first
 returns-4 c = or-right (c .before .before .before .before .before .before .before .before .before .before .before .field-check .ensures) (c .before .before .before .before .before .before .before .before .before .if1 .left) (or-right (c .before .before .before .before .before .before .before .before .field-check2 .ensures) (c .before .before .before .before .before .before .if2 .left) (or-right (c .before .before .before .before .before .field-check3 .ensures) (c .before .before .before .if3 .left) (or-left _ (c .before .before .field-check4 .ensures) (c .if4 .taken))))
 
--- src/checks.rt:146:17
 add-field-check-4 : tie.Need-add-field-check-4
 add-field-check-4 c = search needs
 
--- src/checks.rt:146:5
 field-check-requires-5 : tie.Need-field-check-requires-5
 field-check-requires-5 c κs = search needs
 
--- src/checks.rt:126:1
 returns-5 : tie.Need-returns-5
 unfolding rowRange rowFields first
 returns-5 c =

@@ -1,4 +1,4 @@
-use native.Mathlib.Omega.{arith}
+-- `chain::checks::rows_range` meets its contract: the scan of a table whose rows are 20 bytes wide.
 use borrow.Author.Needs.{needs}
 use Prim.Native.Nat.{_-_}
 use Rattle.chain.specs.Record.{rowOf}
@@ -6,9 +6,6 @@ use Rattle.chain.specs.Checks.{rowRange}
 use Rattle.chain.proofs.Scan.{Scanned, scan-start, scan-more, scan-stop, scan-end}
 use Rattle.chain.proofs.checks.rows_range.Statement.{statement}
 use Rattle.chain.proofs.checks.rows_range.Tie as tie
-use Rattle.chain.proofs.checks.rows_range.Reads as reads
-use Rattle.chain.proofs.checks.rows_range.Lts as lts
-use Rattle.chain.proofs.checks.row_range.Reads as row-range-reads
 
 abbrev Inv-loop : tie.InvT-loop
 Inv-loop q chain n i₀ at₀ i at = Scanned (λ j. rowRange (rowOf chain j)) n q 20 i at
@@ -16,47 +13,36 @@ Inv-loop q chain n i₀ at₀ i at = Scanned (λ j. rowRange (rowOf chain j)) n 
 abbrev μ-loop : tie.MeasureT-loop
 μ-loop q chain n i₀ at₀ i at = n - i
 
--- src/checks.rt:70:13
 cast-n : tie.Need-cast-n Inv-loop μ-loop
 cast-n c = search needs
 
--- src/checks.rt:73:5
 loop-holds : tie.Need-loop-holds Inv-loop μ-loop
 loop-holds c = scan-start _ _ _ _
 
--- src/checks.rt:74:19
 mul-row : tie.Need-mul-row Inv-loop μ-loop
 mul-row c = search needs
 
--- src/checks.rt:74:19
 element-copy-out-row : tie.Need-element-copy-out-row Inv-loop μ-loop
 element-copy-out-row c = search needs
 
--- src/checks.rt:75:13
 row-range-requires : tie.Need-row-range-requires Inv-loop μ-loop
 row-range-requires c κs = search needs
 
--- src/checks.rt:77:13
 returns : tie.Need-returns Inv-loop μ-loop
 returns c = scan-stop _ _ _ _ (c .before .before .before .before .before .loop .inv) (c .before .before .before .before .loop-test .taken) (c .before .before .row-range .ensures) (c .if1 .taken)
 
--- src/checks.rt:79:9
 add-i : tie.Need-add-i Inv-loop μ-loop
 add-i c = search needs
 
--- src/checks.rt:80:9
 add-at : tie.Need-add-at Inv-loop μ-loop
 add-at c = search needs
 
--- src/checks.rt:73:5
 loop-less : tie.Need-loop-less Inv-loop μ-loop
 loop-less c = search needs
 
--- src/checks.rt:73:5
 loop-again : tie.Need-loop-again Inv-loop μ-loop
 loop-again c = scan-more _ _ _ _ (c .before .before .before .before .before .loop .inv) (c .before .before .before .before .loop-test .taken) (c .before .before .row-range .ensures) (c .if1 .left)
 
--- src/checks.rt:66:1
 returns-2 : tie.Need-returns-2 Inv-loop μ-loop
 returns-2 c = scan-end _ _ _ _ (c .before .loop .inv) (c .loop-test .left)
 

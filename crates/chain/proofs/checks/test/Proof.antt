@@ -1,14 +1,10 @@
-use Rattle.chain.specs.Refusals.{test}
+-- `chain::checks::test` meets its contract: by the two values of the test.
 use Rattle.chain.proofs.checks.test.Statement.{statement}
 use Rattle.chain.proofs.checks.test.Tie as tie
-use Rattle.chain.proofs.checks.test.Reads as reads
-use Rattle.chain.proofs.checks.test.Lts as lts
 
--- src/checks.rt:157:1
 returns : tie.Need-returns
 returns c = rw (c .if1 .taken)
 
--- src/checks.rt:157:1
 returns-2 : tie.Need-returns-2
 returns-2 c = rw (c .if1 .left)
 

@@ -36,100 +36,76 @@ made-is (suc zero) h = refl
 made-is (suc (suc zero)) h = refl
 made-is (suc (suc (suc k))) h = absurd (omega arith)
 
--- src/stock.rt:28:9
 returns : tie.Need-returns
 unfolding factoryAnswer answered factoryRefusal first orElse
 returns c = simp (lt-ltb _ _ (c .if1 .taken))
 
--- src/stock.rt:32:15
 mul-chain : tie.Need-mul-chain
 mul-chain c = search needs
 
--- src/stock.rt:32:15
 array-read-chain : tie.Need-array-read-chain
 array-read-chain c = search needs
 
--- src/stock.rt:33:20
 mul-chain-2 : tie.Need-mul-chain-2
 mul-chain-2 c = search needs
 
--- src/stock.rt:33:20
 array-read-chain-2 : tie.Need-array-read-chain-2
 array-read-chain-2 c = search needs
 
--- src/stock.rt:34:28
 mul-chain-3 : tie.Need-mul-chain-3
 mul-chain-3 c = search needs
 
--- src/stock.rt:34:23
 mul-chain-4 : tie.Need-mul-chain-4
 mul-chain-4 c = search needs
 
--- src/stock.rt:34:23
 array-copy-out-chain : tie.Need-array-copy-out-chain
 array-copy-out-chain c = search needs
 
--- src/stock.rt:34:5
 element-set-from-chain : tie.Need-element-set-from-chain
 element-set-from-chain c = search needs
 
--- src/stock.rt:35:28
 mul-chain-5 : tie.Need-mul-chain-5
 mul-chain-5 c = search needs
 
--- src/stock.rt:35:28
 add-chain : tie.Need-add-chain
 add-chain c = search needs
 
--- src/stock.rt:35:23
 mul-chain-6 : tie.Need-mul-chain-6
 mul-chain-6 c = search needs
 
--- src/stock.rt:35:23
 array-copy-out-chain-2 : tie.Need-array-copy-out-chain-2
 array-copy-out-chain-2 c = search needs
 
--- src/stock.rt:35:5
 element-set-from-chain-2 : tie.Need-element-set-from-chain-2
 element-set-from-chain-2 c = search needs
 
--- src/stock.rt:36:27
 mul-chain-7 : tie.Need-mul-chain-7
 mul-chain-7 c = search needs
 
--- src/stock.rt:36:21
 mul-chain-8 : tie.Need-mul-chain-8
 mul-chain-8 c = search needs
 
--- src/stock.rt:36:21
 array-read-chain-3 : tie.Need-array-read-chain-3
 array-read-chain-3 c = search needs
 
--- src/stock.rt:36:5
 element-write-chain : tie.Need-element-write-chain
 element-write-chain c = search needs
 
--- src/stock.rt:37:27
 mul-chain-9 : tie.Need-mul-chain-9
 mul-chain-9 c = search needs
 
--- src/stock.rt:37:27
 add-chain-2 : tie.Need-add-chain-2
 add-chain-2 c = search needs
 
--- src/stock.rt:37:21
 mul-chain-10 : tie.Need-mul-chain-10
 mul-chain-10 c = search needs
 
--- src/stock.rt:37:21
 array-read-chain-4 : tie.Need-array-read-chain-4
 array-read-chain-4 c = search needs
 
--- src/stock.rt:37:5
 element-write-chain-2 : tie.Need-element-write-chain-2
 element-write-chain-2 c = search needs
 
--- src/stock.rt:24:1
 returns-2 : tie.Need-returns-2
 returns-2 c = made-is _ (c .before .before .if1 .left)
 

@@ -1,58 +1,42 @@
+-- `chainfile::reader::header_check` meets its contract: 1, 2 and 3 in a row, on the words that `word_of` gives.
 use borrow.Author.Needs.{needs}
-use mathlib.Core.Path.{_∙_, ap, ap₂}
+use mathlib.Core.Path.{_∙_, ap}
 use Rattle.chain.specs.Refusals.{test, first, or-left, or-right}
 use Rattle.chain.specs.Checks.{countCheck}
 use Rattle.chainfile.specs.Accepted.{headerRefusal}
 use Rattle.chainfile.proofs.Reading.{offset-last}
 use Rattle.chainfile.proofs.reader.header_check.Statement.{statement}
 use Rattle.chainfile.proofs.reader.header_check.Tie as tie
-use Rattle.chainfile.proofs.reader.header_check.Reads as reads
-use Rattle.chainfile.proofs.reader.header_check.Lts as lts
-use Rattle.chain.proofs.count_check.Reads as count-check-reads
-use Rattle.chain.proofs.test.Reads as test-reads
-use Rattle.chainfile.proofs.reader.is_wrong_length.Reads as is-wrong-length-reads
-use Rattle.chainfile.proofs.reader.offset_check.Reads as offset-check-reads
-use Rattle.words.proofs.word_of.Reads as word-of-reads
 
--- src/reader.rt:38:36
 is-wrong-length-requires : tie.Need-is-wrong-length-requires
 is-wrong-length-requires c κs = search needs
 
--- src/reader.rt:38:9
 test-requires : tie.Need-test-requires
 test-requires c κs = search needs
 
--- src/reader.rt:40:9
 returns : tie.Need-returns
 unfolding headerRefusal first
 returns c = or-left _ (c .before .before .test .ensures ∙ ap (test 1 0) (c .before .before .before .is-wrong-length .ensures)) (c .if1 .taken)
 
--- src/reader.rt:42:9
 word-of-requires : tie.Need-word-of-requires
 word-of-requires c κs = search needs
 
--- src/reader.rt:43:9
 count-check-requires : tie.Need-count-check-requires
 count-check-requires c κs = search needs
 
--- src/reader.rt:45:9
 returns-2 : tie.Need-returns-2
 unfolding headerRefusal first
 returns-2 c = or-right (c .before .before .before .before .before .before .test .ensures ∙ ap (test 1 0) (c .before .before .before .before .before .before .before .is-wrong-length .ensures)) (c .before .before .before .before .if1 .left) (or-left _ (c .before .before .count-check .ensures ∙ ap countCheck (c .before .before .before .word-of .ensures)) (c .if2 .taken))
 
--- src/reader.rt:47:9
 word-of-requires-2 : tie.Need-word-of-requires-2
 word-of-requires-2 c κs = search needs
 
--- src/reader.rt:48:9
 word-of-requires-3 : tie.Need-word-of-requires-3
 word-of-requires-3 c κs = search needs
 
--- src/reader.rt:49:5
 offset-check-requires : tie.Need-offset-check-requires
 offset-check-requires c κs = search needs
 
--- src/reader.rt:35:1
 returns-3 : tie.Need-returns-3
 unfolding headerRefusal first
 returns-3 c = or-right (c .before .before .before .before .before .before .before .before .before .test .ensures ∙ ap (test 1 0) (c .before .before .before .before .before .before .before .before .before .before .is-wrong-length .ensures)) (c .before .before .before .before .before .before .before .if1 .left) (or-right (c .before .before .before .before .before .count-check .ensures ∙ ap countCheck (c .before .before .before .before .before .before .word-of .ensures)) (c .before .before .before .if2 .left) (offset-last _ (c .offset-check .ensures) (c .before .before .before .before .before .before .word-of .ensures) (c .before .before .word-of2 .ensures) (c .before .word-of3 .ensures)))

@@ -1,18 +1,14 @@
+-- `chainfile::reader::is_misplaced` meets its contract: the three tests are the definition's.
 use borrow.Author.Tests.{lt-ltb, le-ltb, eq-eqb, ne-eqb}
 use Rattle.chainfile.proofs.reader.is_misplaced.Statement.{statement}
 use Rattle.chainfile.proofs.reader.is_misplaced.Tie as tie
-use Rattle.chainfile.proofs.reader.is_misplaced.Reads as reads
-use Rattle.chainfile.proofs.reader.is_misplaced.Lts as lts
 
--- src/reader.rt:88:9
 returns : tie.Need-returns
 returns c = simp (ne-eqb _ _ (c .if1 .taken))
 
--- src/reader.rt:84:1
 returns-2 : tie.Need-returns-2
 returns-2 c = simp (eq-eqb _ _ (c .before .if1 .left), lt-ltb _ _ (c .if2 .taken))
 
--- src/reader.rt:84:1
 returns-3 : tie.Need-returns-3
 returns-3 c = simp (eq-eqb _ _ (c .before .if1 .left), le-ltb _ _ (c .if2 .left))
 

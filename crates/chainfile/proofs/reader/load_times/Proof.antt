@@ -1,3 +1,4 @@
+-- `chainfile::reader::load_times` meets its contract: before slot i is filled, the first i slots are.
 use native.Mathlib.Omega.{arith}
 use borrow.Author.Needs.{needs}
 use mathlib.Core.Path.{_≡_}
@@ -6,9 +7,6 @@ use Rattle.words.specs.Words.{wordAt}
 use Rattle.words.specs.Table.{slots, slots-none, slots-more, slots-end}
 use Rattle.chainfile.proofs.reader.load_times.Statement.{statement}
 use Rattle.chainfile.proofs.reader.load_times.Tie as tie
-use Rattle.chainfile.proofs.reader.load_times.Reads as reads
-use Rattle.chainfile.proofs.reader.load_times.Lts as lts
-use Rattle.words.proofs.word_of.Reads as word-of-reads
 
 abbrev Inv-loop : tie.InvT-loop
 Inv-loop file at n times₀ i₀ times i = (i ≤ n) × (times ≡ slots (λ j. wordAt file (at + 4 * j)) 0 16 i)
@@ -16,43 +14,33 @@ Inv-loop file at n times₀ i₀ times i = (i ≤ n) × (times ≡ slots (λ j. 
 abbrev μ-loop : tie.MeasureT-loop
 μ-loop file at n times₀ i₀ times i = n - i
 
--- src/reader.rt:126:5
 loop-holds : tie.Need-loop-holds Inv-loop μ-loop
 loop-holds c = (omega arith, slots-none _ _ 16)
 
--- src/reader.rt:127:46
 mul-word-of : tie.Need-mul-word-of Inv-loop μ-loop
 mul-word-of c = search needs
 
--- src/reader.rt:127:41
 add-word-of : tie.Need-add-word-of Inv-loop μ-loop
 add-word-of c = search needs
 
--- src/reader.rt:127:20
 word-of-requires : tie.Need-word-of-requires Inv-loop μ-loop
 word-of-requires c κs = search needs
 
--- src/reader.rt:127:9
 mul-times : tie.Need-mul-times Inv-loop μ-loop
 mul-times c = search needs
 
--- src/reader.rt:127:9
 array-write-times : tie.Need-array-write-times Inv-loop μ-loop
 array-write-times c = search needs
 
--- src/reader.rt:128:9
 add-i : tie.Need-add-i Inv-loop μ-loop
 add-i c = search needs
 
--- src/reader.rt:126:5
 loop-less : tie.Need-loop-less Inv-loop μ-loop
 loop-less c = search needs
 
--- src/reader.rt:126:5
 loop-again : tie.Need-loop-again Inv-loop μ-loop
 loop-again c = (omega arith, slots-more _ _ 16 _ _ _ (omega arith) (c .before .before .loop .inv .1) (c .word-of .ensures))
 
--- src/reader.rt:120:1
 returns : tie.Need-returns Inv-loop μ-loop
 returns c = slots-end _ _ 16 _ _ (c .before .loop .inv .0) (c .loop-test .left) _ (c .before .loop .inv .1)
 

@@ -1,3 +1,4 @@
+-- `chainfile::reader::offset_check` meets its contract: each test is the first that speaks, or is silent and the next one is asked.
 use borrow.Author.Needs.{needs}
 use mathlib.Core.Path.{_∙_, ap}
 use mathlib.Core.Bool.{Bool}
@@ -7,63 +8,45 @@ use Rattle.chain.specs.Refusals.{test, first, or-left, or-right, test-alone}
 use Rattle.chainfile.specs.File.{offsetCheck}
 use Rattle.chainfile.proofs.reader.offset_check.Statement.{statement}
 use Rattle.chainfile.proofs.reader.offset_check.Tie as tie
-use Rattle.chainfile.proofs.reader.offset_check.Reads as reads
-use Rattle.chainfile.proofs.reader.offset_check.Lts as lts
-use Rattle.chain.proofs.test.Reads as test-reads
-use Rattle.chainfile.proofs.reader.do_overlap.Reads as do-overlap-reads
-use Rattle.chainfile.proofs.reader.is_misplaced.Reads as is-misplaced-reads
 
--- src/reader.rt:64:31
 mul-qend : tie.Need-mul-qend
 mul-qend c = search needs
 
--- src/reader.rt:64:16
 add-qend : tie.Need-add-qend
 add-qend c = search needs
 
--- src/reader.rt:65:31
 mul-wend : tie.Need-mul-wend
 mul-wend c = search needs
 
--- src/reader.rt:65:16
 add-wend : tie.Need-add-wend
 add-wend c = search needs
 
--- src/reader.rt:66:36
 is-misplaced-requires : tie.Need-is-misplaced-requires
 is-misplaced-requires c κs = search needs
 
--- src/reader.rt:66:9
 test-requires : tie.Need-test-requires
 test-requires c κs = search needs
 
--- src/reader.rt:68:9
 returns : tie.Need-returns
 unfolding offsetCheck first
 returns c = or-left _ (c .before .before .test .ensures ∙ ap (test 3 8) (c .before .before .before .is-misplaced .ensures)) (c .if1 .taken)
 
--- src/reader.rt:70:36
 is-misplaced-requires-2 : tie.Need-is-misplaced-requires-2
 is-misplaced-requires-2 c κs = search needs
 
--- src/reader.rt:70:9
 test-requires-2 : tie.Need-test-requires-2
 test-requires-2 c κs = search needs
 
--- src/reader.rt:72:9
 returns-2 : tie.Need-returns-2
 unfolding offsetCheck first
 returns-2 c = or-right (c .before .before .before .before .before .before .test .ensures ∙ ap (test 3 8) (c .before .before .before .before .before .before .before .is-misplaced .ensures)) (c .before .before .before .before .if1 .left) (or-left _ (c .before .before .test2 .ensures ∙ ap (test 3 12) (c .before .before .before .is-misplaced2 .ensures)) (c .if2 .taken))
 
--- src/reader.rt:74:24
 do-overlap-requires : tie.Need-do-overlap-requires
 do-overlap-requires c κs = search needs
 
--- src/reader.rt:74:5
 test-requires-3 : tie.Need-test-requires-3
 test-requires-3 c κs = search needs
 
--- src/reader.rt:61:1
 returns-3 : tie.Need-returns-3
 unfolding offsetCheck first
 returns-3 c = or-right (c .before .before .before .before .before .before .before .before .test .ensures ∙ ap (test 3 8) (c .before .before .before .before .before .before .before .before .before .is-misplaced .ensures)) (c .before .before .before .before .before .before .if1 .left) (or-right (c .before .before .before .before .test2 .ensures ∙ ap (test 3 12) (c .before .before .before .before .before .is-misplaced2 .ensures)) (c .before .before .if2 .left) (c .test3 .ensures ∙ test-alone 3 12 (λ e. omega arith) (c .before .do-overlap .result) ∙ ap (λ (b : Bool). first (test 3 12 b ∷ [])) (c .before .do-overlap .ensures)))

@@ -1,44 +1,31 @@
+-- `chainfile::reader::read` meets its contract: its three ways out, as `Reading` has them.
 use borrow.Author.Needs.{needs}
 use Rattle.chainfile.specs.Accepted.{placed}
 use Rattle.chainfile.proofs.Reading.{loaded-tables, header-refused, rows-refused, read-done}
 use Rattle.chainfile.proofs.reader.read.Statement.{statement}
 use Rattle.chainfile.proofs.reader.read.Tie as tie
-use Rattle.chainfile.proofs.reader.read.Reads as reads
-use Rattle.chainfile.proofs.reader.read.Lts as lts
-use Rattle.chain.proofs.check_tables.Reads as check-tables-reads
-use Rattle.chainfile.proofs.reader.header_check.Reads as header-check-reads
-use Rattle.chainfile.proofs.reader.load.Reads as load-reads
-use Rattle.words.proofs.word_of.Reads as word-of-reads
 
--- src/reader.rt:20:9
 header-check-requires : tie.Need-header-check-requires
 header-check-requires c κs = search needs
 
--- src/reader.rt:22:9
 returns : tie.Need-returns
 returns c = header-refused _ (c .before .before .header-check .ensures) (c .if1 .taken)
 
--- src/reader.rt:24:9
 load-requires : tie.Need-load-requires
 load-requires c κs = placed _ (c .before .before .header-check .ensures) (c .if1 .left)
 
--- src/reader.rt:25:9
 word-of-requires : tie.Need-word-of-requires
 word-of-requires c κs = search needs
 
--- src/reader.rt:26:9
 word-of-requires-2 : tie.Need-word-of-requires-2
 word-of-requires-2 c κs = search needs
 
--- src/reader.rt:27:9
 check-tables-requires : tie.Need-check-tables-requires
 check-tables-requires c κs = loaded-tables (placed _ (c .before .before .before .before .before .header-check .ensures) (c .before .before .before .if1 .left)) (record { record-is = c .before .before .load .ensures; queues-are = c .before .word-of .ensures; nodes-are = c .word-of2 .ensures })
 
--- src/reader.rt:29:9
 returns-2 : tie.Need-returns-2
 returns-2 c = rows-refused _ (c .before .before .before .before .before .before .before .before .header-check .ensures) (c .before .before .before .before .before .before .if1 .left) (record { record-is = c .before .before .before .before .before .load .ensures; queues-are = c .before .before .before .before .word-of .ensures; nodes-are = c .before .before .before .word-of2 .ensures }) (c .before .before .check-tables .ensures) (c .if2 .taken)
 
--- src/reader.rt:17:1
 returns-3 : tie.Need-returns-3
 returns-3 c = read-done _ (c .before .before .before .before .before .before .before .before .header-check .ensures) (c .before .before .before .before .before .before .if1 .left) (record { record-is = c .before .before .before .before .before .load .ensures; queues-are = c .before .before .before .before .word-of .ensures; nodes-are = c .before .before .before .word-of2 .ensures }) (c .before .before .check-tables .ensures) (c .if2 .left)
 

@@ -1,3 +1,4 @@
+-- `chainfile::writer::put_times` meets its contract: before word i is written, the first i words are.
 use native.Mathlib.Omega.{arith}
 use borrow.Author.Needs.{needs}
 use Prim.Native.Nat.{_≤_, _-_}
@@ -7,9 +8,6 @@ use Rattle.chainfile.specs.Packed.{nodes, nodes-length}
 use Rattle.chainfile.proofs.Writing.{table-start, table-put, table-end}
 use Rattle.chainfile.proofs.writer.put_times.Statement.{statement}
 use Rattle.chainfile.proofs.writer.put_times.Tie as tie
-use Rattle.chainfile.proofs.writer.put_times.Reads as reads
-use Rattle.chainfile.proofs.writer.put_times.Lts as lts
-use Rattle.words.proofs.put_word.Reads as put-word-reads
 
 abbrev Inv-loop : tie.InvT-loop
 Inv-loop out₀ at chain n i₀ k₀ out i k = (i ≤ n) × Puts out₀ at (bytesOf (nodes chain i)) out k
@@ -17,46 +15,36 @@ Inv-loop out₀ at chain n i₀ k₀ out i k = (i ≤ n) × Puts out₀ at (byte
 abbrev μ-loop : tie.MeasureT-loop
 μ-loop out₀ at chain n i₀ k₀ out i k = n - i
 
--- src/writer.rt:70:13
 cast-n : tie.Need-cast-n Inv-loop μ-loop
 cast-n c = search needs
 
--- src/writer.rt:73:5
 loop-holds : tie.Need-loop-holds Inv-loop μ-loop
 loop-holds c = (omega arith, table-start _)
 
--- src/writer.rt:74:37
 mul-put-word : tie.Need-mul-put-word Inv-loop μ-loop
 mul-put-word c = search needs
 
--- src/writer.rt:74:37
 element-copy-out-put-word : tie.Need-element-copy-out-put-word Inv-loop μ-loop
 element-copy-out-put-word c = search needs
 
--- src/writer.rt:74:9
 put-word-requires : tie.Need-put-word-requires Inv-loop μ-loop
 put-word-requires c κs =
     let l = c .before .before .before .loop in
     let a = c .before .before .before .before .before .args in
     record { fits = omega (arith, puts-length (l .inv .1), bytes-length (nodes (a .t1) (l .i)), nodes-length (a .t1) (l .i)) }
 
--- src/writer.rt:75:9
 add-i : tie.Need-add-i Inv-loop μ-loop
 add-i c = search needs
 
--- src/writer.rt:73:5
 loop-less : tie.Need-loop-less Inv-loop μ-loop
 loop-less c = search needs
 
--- src/writer.rt:73:5
 loop-again : tie.Need-loop-again Inv-loop μ-loop
 loop-again c = (omega arith, table-put _ _ (c .before .before .before .before .before .before .loop .inv .1) (c .before .before .put-word .ensures))
 
--- src/writer.rt:66:1
 same-length : tie.Need-same-length Inv-loop μ-loop
 same-length c = puts-length (c .before .loop .inv .1)
 
--- src/writer.rt:66:1
 returns : tie.Need-returns Inv-loop μ-loop
 returns c = table-end _ _ _ (c .before .loop .inv .0) (c .loop-test .left) (c .before .loop .inv .1)
 

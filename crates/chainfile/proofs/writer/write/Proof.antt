@@ -1,3 +1,4 @@
+-- `chainfile::writer::write` meets its contract: its three ways out, as `Writing` has them.
 use borrow.Author.Needs.{needs}
 use mathlib.Core.Path.{_∙_, sym}
 use native.Mathlib.Omega.{arith}
@@ -7,48 +8,34 @@ use Rattle.chainfile.specs.Packed.{packed-length}
 use Rattle.chainfile.proofs.Writing.{output-refused, output-done, write-parts, room-short, room-enough}
 use Rattle.chainfile.proofs.writer.write.Statement.{statement}
 use Rattle.chainfile.proofs.writer.write.Tie as tie
-use Rattle.chainfile.proofs.writer.write.Reads as reads
-use Rattle.chainfile.proofs.writer.write.Lts as lts
-use Rattle.chain.proofs.check_chain.Reads as check-chain-reads
-use Rattle.chainfile.proofs.writer.put_chain.Reads as put-chain-reads
 
--- src/writer.rt:15:9
 check-chain-requires : tie.Need-check-chain-requires
 check-chain-requires c κs = search needs
 
--- src/writer.rt:17:9
 returns : tie.Need-returns
 returns c = output-refused _ _ (or-left _ (c .before .before .check-chain .ensures) (c .if1 .taken) ∙ sym (write-parts _ _)) (c .if1 .taken)
 
--- src/writer.rt:19:27
 cast-need : tie.Need-cast-need
 cast-need c = search needs
 
--- src/writer.rt:19:21
 mul-need : tie.Need-mul-need
 mul-need c = search needs
 
--- src/writer.rt:19:16
 add-need : tie.Need-add-need
 add-need c = search needs
 
--- src/writer.rt:21:50
 cast-t9 : tie.Need-cast-t9
 cast-t9 c = omega (arith, sound-known (c .before .before .before .before .before .before .args .chain) (c .before .before .before .before .check-chain .ensures) (c .before .before .if1 .left) .count)
 
--- src/writer.rt:21:9
 returns-2 : tie.Need-returns-2
 returns-2 c = output-refused _ _ (or-right (c .before .before .before .before .check-chain .ensures) (c .before .before .if1 .left) (room-short _ _ (c .if2 .taken)) ∙ sym (write-parts _ _)) (λ z. omega arith)
 
--- src/writer.rt:23:9
 put-chain-requires : tie.Need-put-chain-requires
 put-chain-requires c κs = record { few = sound-known _ (c .before .before .before .before .before .check-chain .ensures) (c .before .before .before .if1 .left) .count .1; room = c .before .if2 .left }
 
--- src/writer.rt:12:1
 same-length : tie.Need-same-length
 same-length c = search needs
 
--- src/writer.rt:12:1
 returns-3 : tie.Need-returns-3
 returns-3 c = output-done (or-right (c .before .before .before .before .before .before .before .before .check-chain .ensures) (c .before .before .before .before .before .before .if1 .left) (room-enough _ _ (c .before .before .before .before .if2 .left)) ∙ sym (write-parts _ _)) (omega (arith, packed-length (c .before .before .before .before .before .before .before .before .before .before .args .chain))) (c .before .before .put-chain .ensures)
 
