@@ -1,2 +1,1 @@
-pub mod Scan
-mod Checking
+pub mod Gather

@@ -25,10 +25,11 @@ use Rattle.words.specs.Flat.{flat}
 use Rattle.words.specs.Table.{tab}
 use Rattle.words.specs.declared.Queue.{Queue}
 use Rattle.chain.specs.Tests.{outside, Out, In, outside-true, outside-false, below-false}
-use Rattle.chain.specs.Refusals.{refused, fine, test, first, Silent, Silents, First, first-is, Lowest, lowest-is, first-silent, Only, only-test, only-map, only-tab, first-append, first-flat, map-tab, orElse, or-silents, all-silent, test-exact, test-silent}
+use Rattle.chain.specs.Refusals.{refused, fine, test, first, Silent, Silents, First, first-is, Lowest, lowest-is, first-silent, Only, only-test, only-map, only-tab, first-last, first-append, first-flat, map-tab, orElse, or-silents, all-silent, test-exact, test-silent}
 use Rattle.chain.specs.Record.{rowOf, workOf}
 use Rattle.chain.specs.declared.Refusal.{Refusal}
 use Rattle.chain.specs.declared.Chain.{Chain}
+use Rattle.chain.specs.declared.checks.Faults.{Faults}
 
 -- a word of the file, with its range and its byte offset
 pub record Field : Type 0 where
@@ -295,16 +296,29 @@ sound c = Iff·trans (first-silent (countCheck (c .n) ∷ recordRange c ∷ reco
 pub sound-known : {r : Refusal} (c : Chain) → r ≡ chainRefusal c → Silent r → Sound c
 sound-known c e z = sound c .0 (sym (ap (λ (x : Refusal). x .number) e) ∙ z)
 
--- a table of n rows of a width that stands at a place of a file
-pub record Table (n at width : ℕ) : Type 0 where
-  pub few : n ≤ 16
-  pub ends : at + width * n ≤ 4096
+-- what is refused of the rows looked at so far: nothing yet, and with one row more, whose parts stand at `at` and `to`
+abbrev pub noFaults : Faults
+noFaults = record { rows = fine; nodes = fine; order = fine }
 
--- both tables of a file
-pub record Tables (n q w : ℕ) : Type 0 where
-  pub queues : Table n q 20
-  pub nodes : Table n w 4
+abbrev pub withRow : Faults → Queue → ℕ → ℕ → ℕ → Faults
+withRow f q at e to = record { rows = orElse (f .rows) (rowRange q at); nodes = orElse (f .nodes) (nodeRange e to); order = orElse (f .order) (overdrawn q at) }
+
+-- what is refused of the first i rows
+abbrev pub faultsOf : (ℕ → Queue) → (ℕ → ℕ) → ℕ → ℕ → ℕ → Faults
+faultsOf row e q w i = record { rows = first (tab i (λ j. rowRange (row j) (q + 20 * j))); nodes = first (tab i (λ j. nodeRange (e j) (w + 4 * j))); order = first (tab i (λ j. overdrawn (row j) (q + 20 * j))) }
+
+-- 4 of the period and of the rows, then 5
+abbrev pub settled : ℕ → Faults → Refusal
+settled y f = orElse (orElse (outOfRange (field 4 1 1000000 y)) (orElse (f .rows) (f .nodes))) (f .order)
+
+pub settled-is : (c : Chain) (q w : ℕ) → settled (c .period) (faultsOf (rowOf c) (workOf c) q w (c .n)) ≡ first (rangeCheck c q w ∷ orderCheck c q ∷ [])
+unfolding orderCheck first
+settled-is c q w = ap₂ orElse (sym (range-parts c q w)) (sym (first-last (tab (c .n) (λ i. overdrawn (rowOf c i) (q + 20 * i)))))
+
+-- at most as many queues as a record has slots
+pub record Few (n : ℕ) : Type 0 where
+  pub few : n ≤ 16
 
 -- a queue row that stands at a place of a file
-pub record Row (at : ℕ) : Type 0 where
+pub record RowPlace (at : ℕ) : Type 0 where
   pub ends : at + 20 ≤ 4096

@@ -14,7 +14,7 @@
 --   first-append       a list, then the next one
 --   first-is           first rs is refused N L exactly when First rs N L
 --   exact-at           a list says the number of its check k at L exactly when the checks before it are silent and it says so
-use mathlib.Core.Path.{_≡_, refl, sym, ap, _∙_}
+use mathlib.Core.Path.{_≡_, refl, sym, ap, ap₂, _∙_}
 use mathlib.Core.Bool.{Bool, true, false, cond, not, _&&_, true≢false}
 use mathlib.Core.Logic.{_↔_, _≢_, _⊎_, inl, inr, ⊎-elim, Iff·trans, Iff·and, Iff·rfl, by-cases}
 use mathlib.Core.List.{List, [], _∷_, _++_, map, map-append}
@@ -81,6 +81,9 @@ or-left {a} b e h = e ∙ sym (or-speaks a b (λ z. h (number-of e ∙ z)))
 
 pub or-right : {a b r s : Refusal} → r ≡ a → Silent r → s ≡ b → s ≡ orElse a b
 or-right {a} {b} e h g = g ∙ sym (or-silent a b (sym (number-of e) ∙ h))
+
+pub or-both : {a b r s t : Refusal} → r ≡ orElse s t → s ≡ a → t ≡ b → r ≡ orElse a b
+or-both e f g = e ∙ ap₂ orElse f g
 
 -- a silent list says fine
 pub first-fine : (rs : List Refusal) → Silent (first rs) → first rs ≡ fine

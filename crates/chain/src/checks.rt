@@ -1,13 +1,11 @@
 // The checks of a chain's own numbers, 2, 4 and 5, which a file and a record share. A check answers the first refusal
 // of its kind, or none; `check_chain` is what every call that is handed a record runs first.
 ghost use mathlib.Core.Path.{_≡_};
-ghost use mathlib.Core.List.{_∷_, []};
 ghost use Prim.Native.Nat.{_+_, _*_};
-ghost use Rattle.words.specs.Table.{tab};
 ghost use Rattle.chain.specs.Tests.{outside};
-ghost use Rattle.chain.specs.Refusals.{test, first};
+ghost use Rattle.chain.specs.Refusals.{test, orElse};
 ghost use Rattle.chain.specs.Record.{rowOf, workOf};
-ghost use Rattle.chain.specs.Checks.{countCheck, field, outOfRange, rowRange, nodeRange, rangeCheck, orderCheck, chainRefusal, Row, Table, Tables};
+ghost use Rattle.chain.specs.Checks.{countCheck, field, outOfRange, rowRange, withRow, faultsOf, settled, chainRefusal, Few, RowPlace};
 use crate::Chain;
 use crate::Refusal;
 use words::Queue;
@@ -15,6 +13,19 @@ use words::Queue;
 pub const FINE: Refusal = Refusal {
     number: 0,
     place: 0,
+};
+
+// What is refused of the rows looked at so far: the first fault of a queue row's fields, of a node row, and of the order.
+pub struct Faults {
+    pub rows: Refusal,
+    pub nodes: Refusal,
+    pub order: Refusal,
+}
+
+pub const NO_FAULTS: Faults = Faults {
+    rows: FINE,
+    nodes: FINE,
+    order: FINE,
 };
 
 // 2, 4 and 5 of a chain that was handed in as a record, with places as in its packed file.
@@ -25,7 +36,7 @@ pub fn check_chain(chain: Chain) -> Refusal
     if count.number != 0 {
         return count;
     }
-    check_tables(chain, 20, 20 + 20 * chain.n)
+    settle(chain.period, chain_faults(chain))
 }
 
 // 2: how many queues there are.
@@ -35,97 +46,56 @@ pub fn count_check(n: u32) -> Refusal
     test(2, 0, outside(n, 1, 16))
 }
 
-// 4, then 5, of a chain whose tables stand at `q` and `w`.
-pub fn check_tables(chain: Chain, q: u32, w: u32) -> Refusal
-    requires { ⌜ Tables (chain .n) q w ⌝ }
-    ensures { λ r. ⌜ r ≡ first (rangeCheck chain q w ∷ orderCheck chain q ∷ []) ⌝ }
+// 4, then 5, of a chain of this period whose rows have these faults.
+pub fn settle(period: u32, faults: Faults) -> Refusal
+    ensures { λ r. ⌜ r ≡ settled period faults ⌝ }
 {
-    let range = range_check(chain, q, w);
-    if range.number != 0 {
-        return range;
-    }
-    order_check(chain, q)
+    let rows = faults.rows;
+    let nodes = faults.nodes;
+    let order = faults.order;
+    let fields = or_else(field_check(4, 1, 1000000, period), or_else(rows, nodes));
+    or_else(fields, order)
 }
 
-// 4: the period, then the queue rows, then the node rows.
-fn range_check(chain: Chain, q: u32, w: u32) -> Refusal
-    requires { ⌜ Tables (chain .n) q w ⌝ }
-    ensures { λ r. ⌜ r ≡ rangeCheck chain q w ⌝ }
+// The faults with those of one more queue row, which stands at `at`, and of its node row, which stands at `to`.
+pub fn with_row(faults: Faults, row: Queue, at: u32, e: u32, to: u32) -> Faults
+    requires { ⌜ RowPlace at ⌝ }
+    ensures { λ r. ⌜ r ≡ withRow faults row at e to ⌝ }
 {
-    let period = field_check(4, 1, 1000000, chain.period);
-    if period.number != 0 {
-        return period;
+    let rows = faults.rows;
+    let nodes = faults.nodes;
+    let order = faults.order;
+    Faults {
+        rows: or_else(rows, row_range(row, at)),
+        nodes: or_else(nodes, field_check(to, 1, 1000000, e)),
+        order: or_else(order, test(5, at + 8, row.threshold < row.consume)),
     }
-    let rows = rows_range(chain, q);
-    if rows.number != 0 {
-        return rows;
-    }
-    nodes_range(chain, w)
 }
 
-// 4 of the queue rows: the first field out of range.
-fn rows_range(chain: Chain, q: u32) -> Refusal
-    requires { ⌜ Table (chain .n) q 20 ⌝ }
-    ensures { λ r. ⌜ r ≡ first (tab (chain .n) (λ i. rowRange (rowOf chain i) (q + 20 * i))) ⌝ }
+// The faults of a record's rows, each at its place in the packed file.
+fn chain_faults(chain: Chain) -> Faults
+    requires { ⌜ Few (chain .n) ⌝ }
+    ensures { λ r. ⌜ r ≡ faultsOf (rowOf chain) (workOf chain) 20 (20 + 20 * chain .n) (chain .n) ⌝ }
 {
     let n = chain.n as usize;
+    let mut faults = NO_FAULTS;
+    let mut at = 20;
+    let mut to = 20 + 20 * chain.n;
     let mut i = 0;
-    let mut at = q;
     while i < n {
         let row = chain.queues[i];
-        let r = row_range(row, at);
-        if r.number != 0 {
-            return r;
-        }
-        i += 1;
-        at += 20;
-    }
-    FINE
-}
-
-// 4 of the node rows: the first execution time out of range.
-fn nodes_range(chain: Chain, w: u32) -> Refusal
-    requires { ⌜ Table (chain .n) w 4 ⌝ }
-    ensures { λ r. ⌜ r ≡ first (tab (chain .n) (λ i. nodeRange (workOf chain i) (w + 4 * i))) ⌝ }
-{
-    let n = chain.n as usize;
-    let mut i = 0;
-    let mut at = w;
-    while i < n {
         let e = chain.work[i];
-        let r = field_check(at, 1, 1000000, e);
-        if r.number != 0 {
-            return r;
-        }
-        i += 1;
-        at += 4;
-    }
-    FINE
-}
-
-// 5: the first row that consumes more than its threshold.
-fn order_check(chain: Chain, q: u32) -> Refusal
-    requires { ⌜ Table (chain .n) q 20 ⌝ }
-    ensures { λ r. ⌜ r ≡ orderCheck chain q ⌝ }
-{
-    let n = chain.n as usize;
-    let mut i = 0;
-    let mut at = q;
-    while i < n {
-        let row = chain.queues[i];
-        let r = test(5, at + 8, row.threshold < row.consume);
-        if r.number != 0 {
-            return r;
-        }
+        faults = with_row(faults, row, at, e, to);
         i += 1;
         at += 20;
+        to += 4;
     }
-    FINE
+    faults
 }
 
 // 4 of one queue row that stands at `at`, in field order.
 fn row_range(row: Queue, at: u32) -> Refusal
-    requires { ⌜ Row at ⌝ }
+    requires { ⌜ RowPlace at ⌝ }
     ensures { λ r. ⌜ r ≡ rowRange row at ⌝ }
 {
     let produce = field_check(at, 1, 65535, row.produce);
@@ -152,6 +122,16 @@ fn field_check(place: u32, least: u32, most: u32, v: u32) -> Refusal
     ensures { λ r. ⌜ r ≡ outOfRange (field place least most v) ⌝ }
 {
     test(4, place, outside(v, least, most))
+}
+
+// What the first of two checks says, or the other where it is silent.
+fn or_else(a: Refusal, b: Refusal) -> Refusal
+    ensures { λ r. ⌜ r ≡ orElse a b ⌝ }
+{
+    if a.number != 0 {
+        return a;
+    }
+    b
 }
 
 // The refusal of a test that fails, or none.

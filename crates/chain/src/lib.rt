@@ -3,10 +3,13 @@ mod checks;
 mod stock;
 
 pub use checks::FINE;
+pub use checks::Faults;
+pub use checks::NO_FAULTS;
 pub use checks::check_chain;
-pub use checks::check_tables;
 pub use checks::count_check;
+pub use checks::settle;
 pub use checks::test;
+pub use checks::with_row;
 pub use stock::factory;
 pub use words::Queue;
 

@@ -2,7 +2,6 @@
 // places in the tables of rows and times; `COUNTS` says how many it uses.
 ghost use mathlib.Core.Path.{_≡_};
 ghost use Rattle.chain.specs.Factory.{factoryAnswer};
-use crate::Chain;
 use crate::ChainAnswer;
 use crate::EMPTY;
 use words::Queue;

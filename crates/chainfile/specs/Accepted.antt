@@ -1,7 +1,6 @@
 -- What the reader and the writer accept, both ways.
 --   headerRefusal f        1, 2 and 3: what is refused of a file before its rows are looked at
 --   Placed f, placed       what they leave to be known: the count, the length, the total word, where the tables stand
---   placed-tables          so both tables lie inside the longest file
 --   Accepted f             what a file that the reader accepts is
 --   read-accepts           the reader accepts exactly such a file
 --   write-accepts          the writer accepts exactly a sound chain that fits
@@ -19,7 +18,7 @@ use borrow.Author.Tests.{le-ltb}
 use lib.ListN.{length}
 use Rattle.chain.specs.Tests.{In, below-false}
 use Rattle.chain.specs.Refusals.{fine, test, first, Silent, Silents, number-of, first-fine, first-silent, test-silent}
-use Rattle.chain.specs.Checks.{countCheck, count-silent, recordRange, recordOrder, Sound, sound-is, Tables}
+use Rattle.chain.specs.Checks.{countCheck, count-silent, recordRange, recordOrder, Sound, sound-is}
 use Rattle.chain.specs.declared.Refusal.{Refusal}
 use Rattle.chain.specs.declared.Chain.{Chain}
 use Rattle.chainfile.specs.File.{countOf, queuesAt, nodesAt, totalOf, chainOf, lengthCheck, misplaced, overlap, offsetTests, offsetCheck, fileOffsets, fileRange, fileOrder, readChecks, readRefusal, length-silent, GoodTable, good-table}
@@ -50,12 +49,6 @@ placed f e z = record { count = count-silent (countOf f) .0 (h .1 .0); long = le
 
     good : (P at end : ℕ) → Silent (test 3 P (misplaced (length f) at end)) → GoodTable (length f) at end
     good P at end s = good-table (length f) at end .0 (test-silent 3 P (λ e. omega arith) _ .0 s)
-
-pub placed-tables : (f : List ℕ) → Placed f → Tables (countOf f) (queuesAt f) (nodesAt f)
-placed-tables f p = record {
-  queues = record { few = p .count .1; ends = omega (arith, p .queues .1 .1, p .long .1) };
-  nodes = record { few = p .count .1; ends = omega (arith, p .nodes .1 .1, p .long .1) };
-}
 
 -- what a file that the reader accepts is: its tables stand well and apart, and what it says is a sound chain
 pub record Accepted (f : List ℕ) : Type 0 where

@@ -6,6 +6,7 @@
 --   offsetCheck len n q w      3: where the tables stand
 --   fileOffsets f, fileRange f, fileOrder f
 --                              3, 4 and 5 of the file f
+--   rowsRefusal f              4, then 5
 --   readChecks f               the reader's checks, in order
 --   readRefusal f, readAnswer f
 --                              what the reader refuses f with, and its whole answer
@@ -87,6 +88,11 @@ fileRange f = rangeCheck (chainOf f) (queuesAt f) (nodesAt f)
 
 abbrev pub fileOrder : List ℕ → Refusal
 fileOrder f = orderCheck (chainOf f) (queuesAt f)
+
+-- 4, then 5: what is refused of the rows of a file
+unfoldable pub rowsRefusal : List ℕ → Refusal
+unfolding first chainOf rangeCheck orderCheck
+rowsRefusal f = first (fileRange f ∷ fileOrder f ∷ [])
 
 -- "the reader checks 1 to 5"
 abbrev pub readChecks : List ℕ → List Refusal

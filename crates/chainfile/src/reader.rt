@@ -1,20 +1,14 @@
 // The chain file's reader: checks 1 to 5 in order, on the caller's own bytes. Each word goes once from its place in the
-// file into its slot of the record, and the rows are checked there.
+// file into its slot of the record, and is checked on the way.
 ghost use mathlib.Core.Path.{_≡_};
 ghost use mathlib.Core.Bool.{_||_, _&&_, not};
-ghost use Prim.Native.Nat.{_+_, _*_, _%_};
 ghost use lib.Dec.{eqb};
 ghost use lib.ListN.{length};
-ghost use Rattle.words.specs.Words.{wordAt};
-ghost use Rattle.words.specs.Rows.{none, rowAt};
-ghost use Rattle.words.specs.Table.{slots};
 ghost use Rattle.chain.specs.Tests.{outside};
-ghost use Rattle.chain.specs.Checks.{Table};
-ghost use Rattle.chainfile.specs.File.{totalOf, misplaced, overlap, offsetCheck, chainOf, readAnswer};
+ghost use Rattle.chain.specs.Record.{answered};
+ghost use Rattle.chainfile.specs.File.{totalOf, misplaced, overlap, offsetCheck, rowsRefusal, chainOf, readAnswer};
 ghost use Rattle.chainfile.specs.Accepted.{headerRefusal, Placed};
-use chain::Chain;
 use chain::ChainAnswer;
-use chain::Queue;
 use chain::Refusal;
 
 // The chain of a file, or the refusal of the first of 1 to 5 that speaks.
@@ -29,22 +23,7 @@ pub fn read(file: &[u8]) -> ChainAnswer
             chain: chain::EMPTY,
         };
     }
-    let chain = load(file);
-    let q = words::word_of(file, 8);
-    let w = words::word_of(file, 12);
-    let rows = chain::check_tables(chain, q, w);
-    if rows.number != 0 {
-        return ChainAnswer {
-            number: rows.number,
-            place: rows.place,
-            chain: chain::EMPTY,
-        };
-    }
-    ChainAnswer {
-        number: 0,
-        place: 0,
-        chain: chain,
-    }
+    load(file)
 }
 
 // 1, 2 and 3: what is wrong with the header, before any row is looked at.
@@ -113,49 +92,40 @@ fn do_overlap(q: u32, qend: usize, w: u32, wend: usize) -> bool
     (q as usize) < wend && (w as usize) < qend
 }
 
-// The record of a file whose tables stand well.
-fn load(file: &[u8]) -> Chain
+// The record of a file whose tables stand well, or what 4 and 5 refuse of it. Each row is checked as it is read.
+fn load(file: &[u8]) -> ChainAnswer
     requires { ⌜ Placed (now file) ⌝ }
-    ensures { λ r. ⌜ r ≡ chainOf (now (file .entry)) ⌝ }
+    ensures { λ r. ⌜ r ≡ answered (rowsRefusal (now (file .entry))) (chainOf (now (file .entry))) ⌝ }
 {
-    let n = words::word_of(file, 0);
-    let period = words::word_of(file, 4);
-    let q = words::word_of(file, 8);
-    let w = words::word_of(file, 12);
-    let queues = load_rows(file, q as usize, n as usize);
-    let work = load_times(file, w as usize, n as usize);
-    Chain {
-        n: n,
-        period: period,
-        queues: queues,
-        work: work,
-    }
-}
-
-// The queue table's n rows from `at` on, each in its slot.
-fn load_rows(file: &[u8], at: usize, n: usize) -> [Queue; 16]
-    requires { ⌜ Table n at 20 ⌝ }
-    ensures { λ r. ⌜ r ≡ slots (λ i. rowAt (now (file .entry)) (at + 20 * i)) none 16 n ⌝ }
-{
-    let mut rows = [words::NONE; 16];
+    let mut chain = chain::EMPTY;
+    chain.n = words::word_of(file, 0);
+    chain.period = words::word_of(file, 4);
+    let mut faults = chain::NO_FAULTS;
+    let mut at = words::word_of(file, 8);
+    let mut to = words::word_of(file, 12);
+    let n = chain.n as usize;
     let mut i = 0;
     while i < n {
-        rows[i] = words::row_of(file, at + 20 * i);
+        let row = words::row_of(file, at as usize);
+        let e = words::word_of(file, to as usize);
+        faults = chain::with_row(faults, row, at, e, to);
+        chain.queues[i] = row;
+        chain.work[i] = e;
         i += 1;
+        at += 20;
+        to += 4;
     }
-    rows
-}
-
-// The node table's n execution times from `at` on, each in its slot.
-fn load_times(file: &[u8], at: usize, n: usize) -> [u32; 16]
-    requires { ⌜ Table n at 4 ⌝ }
-    ensures { λ r. ⌜ r ≡ slots (λ i. wordAt (now (file .entry)) (at + 4 * i)) 0 16 n ⌝ }
-{
-    let mut times = [0; 16];
-    let mut i = 0;
-    while i < n {
-        times[i] = words::word_of(file, at + 4 * i);
-        i += 1;
+    let wrong = chain::settle(chain.period, faults);
+    if wrong.number != 0 {
+        return ChainAnswer {
+            number: wrong.number,
+            place: wrong.place,
+            chain: chain::EMPTY,
+        };
     }
-    times
+    ChainAnswer {
+        number: 0,
+        place: 0,
+        chain: chain,
+    }
 }

@@ -4,12 +4,13 @@
 --   length-tab, tab-at, is-tab
 --                      what characterises a table: its length, its elements, and that they are all there is to it
 --   tab-last, -more    one element more, at the end
+--   tab-alike          tables of equal elements are equal
 --   slot-used, -free   what a slot below n holds, and what one from n on does
 --   slots-none, -more, -end
 --                      a table filled slot by slot: at the start, after one slot more, and at the end
 --   slots-alike        tables that are filled alike are equal
 --   slots-again        a table filled with its own slots is the same table
-use mathlib.Core.Path.{_≡_, refl, sym, ap, _∙_}
+use mathlib.Core.Path.{_≡_, refl, sym, ap, ap₂, _∙_}
 use mathlib.Core.Bool.{Bool, true, false, cond}
 use mathlib.Core.Logic.{_≢_}
 use mathlib.Core.List.{List, [], _∷_, _++_}
@@ -49,6 +50,11 @@ module _ {A : Type 0} where
 
   pub tab-more : (n : ℕ) (f : ℕ → A) → tab (n + 1) f ≡ tab n f ++ (f n ∷ [])
   tab-more n f = rw add-one (tab-last n f)
+
+  pub tab-alike : (n : ℕ) (f g : ℕ → A) → ((i : ℕ) → i < n → f i ≡ g i) → tab n f ≡ tab n g
+  unfolding tab
+  tab-alike zero f g h = refl
+  tab-alike (suc n) f g h = ap₂ _∷_ (h zero (omega arith)) (tab-alike n (λ k. f (suc k)) (λ k. g (suc k)) (λ i l. h (suc i) (omega arith)))
 
 module _ {A : Type 0} (f : ℕ → A) (z : A) where
   -- N slots, of which the first n hold f 0 .. f (n - 1) and the others z

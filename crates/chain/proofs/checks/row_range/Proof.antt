@@ -1,8 +1,10 @@
 -- `chain::checks::row_range` meets its contract: each field is the first that speaks, or is silent and the next one is asked.
 use borrow.Author.Needs.{needs}
 use Prim.Native.Nat.{_+_}
-use Rattle.chain.specs.Checks.{field}
-use Rattle.chain.proofs.Checking.{field-last}
+use Rattle.chain.specs.Tests.{outside}
+use Rattle.chain.specs.Refusals.{test-alone}
+use mathlib.Core.Path.{_∙_}
+use native.Mathlib.Omega.{arith}
 use Rattle.chain.specs.Refusals.{first, or-left, or-right}
 use Rattle.chain.specs.Checks.{rowRange, rowFields}
 use Rattle.chain.proofs.checks.row_range.Statement.{statement}
@@ -55,7 +57,7 @@ returns-5 : tie.Need-returns-5
 unfolding rowRange rowFields first
 returns-5 c =
     let a = c .before .before .before .before .before .before .before .before .before .before .before .before .before .args in
-    or-right (c .before .before .before .before .before .before .before .before .before .before .before .before .field-check .ensures) (c .before .before .before .before .before .before .before .before .before .before .if1 .left) (or-right (c .before .before .before .before .before .before .before .before .before .field-check2 .ensures) (c .before .before .before .before .before .before .before .if2 .left) (or-right (c .before .before .before .before .before .before .field-check3 .ensures) (c .before .before .before .before .if3 .left) (or-right (c .before .before .before .field-check4 .ensures) (c .before .if4 .left) (field-last (field (a .at + 16) 0 0 (a .row .reserved)) (c .field-check5 .ensures)))))
+    or-right (c .before .before .before .before .before .before .before .before .before .before .before .before .field-check .ensures) (c .before .before .before .before .before .before .before .before .before .before .if1 .left) (or-right (c .before .before .before .before .before .before .before .before .before .field-check2 .ensures) (c .before .before .before .before .before .before .before .if2 .left) (or-right (c .before .before .before .before .before .before .field-check3 .ensures) (c .before .before .before .before .if3 .left) (or-right (c .before .before .before .field-check4 .ensures) (c .before .if4 .left) (c .field-check5 .ensures ∙ test-alone 4 (a .at + 16) (λ z. omega arith) (outside 0 0 (a .row .reserved))))))
 
 pub row-range-spec : {M : Type 1} → statement M
 row-range-spec =

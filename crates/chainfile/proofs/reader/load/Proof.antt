@@ -1,54 +1,112 @@
--- `chainfile::reader::load` meets its contract: the words and the two tables are the record that the file says.
+-- `chainfile::reader::load` meets its contract: before row i is read, the slots before it are filled and their faults kept.
+use Prim.Native.Nat.{_-_}
+use native.Mathlib.Omega.{arith}
 use borrow.Author.Needs.{needs}
-use Rattle.chainfile.proofs.Reading.{loaded}
+use Rattle.chainfile.proofs.Reading.{Loading, load-none, load-more, load-end, load-refused, load-done}
 use Rattle.chainfile.proofs.reader.load.Statement.{statement}
 use Rattle.chainfile.proofs.reader.load.Tie as tie
 
-word-of-requires : tie.Need-word-of-requires
+abbrev Inv-loop : tie.InvT-loop
+Inv-loop file chain₀ faults₀ at₀ to₀ n i₀ chain faults at to i = Loading file n (chain₀ .period) at₀ to₀ i at to chain faults
+
+abbrev μ-loop : tie.MeasureT-loop
+μ-loop file chain₀ faults₀ at₀ to₀ n i₀ chain faults at to i = n - i
+
+word-of-requires : tie.Need-word-of-requires Inv-loop μ-loop
 word-of-requires c κs = search needs
 
-word-of-requires-2 : tie.Need-word-of-requires-2
+word-of-requires-2 : tie.Need-word-of-requires-2 Inv-loop μ-loop
 word-of-requires-2 c κs = search needs
 
-word-of-requires-3 : tie.Need-word-of-requires-3
+word-of-requires-3 : tie.Need-word-of-requires-3 Inv-loop μ-loop
 word-of-requires-3 c κs = search needs
 
-word-of-requires-4 : tie.Need-word-of-requires-4
+word-of-requires-4 : tie.Need-word-of-requires-4 Inv-loop μ-loop
 word-of-requires-4 c κs = search needs
 
-cast-load-rows : tie.Need-cast-load-rows
-cast-load-rows c = search needs
+cast-n : tie.Need-cast-n Inv-loop μ-loop
+cast-n c = search needs
 
-cast-load-rows-2 : tie.Need-cast-load-rows-2
-cast-load-rows-2 c = search needs
+loop-holds : tie.Need-loop-holds Inv-loop μ-loop
+loop-holds c = load-none _ _ _ _ _
 
-load-rows-requires : tie.Need-load-rows-requires
-load-rows-requires c κs = search needs
+cast-row-of : tie.Need-cast-row-of Inv-loop μ-loop
+cast-row-of c = search needs
 
-cast-load-times : tie.Need-cast-load-times
-cast-load-times c = search needs
+row-of-requires : tie.Need-row-of-requires Inv-loop μ-loop
+row-of-requires c κs = search needs
 
-cast-load-times-2 : tie.Need-cast-load-times-2
-cast-load-times-2 c = search needs
+cast-word-of : tie.Need-cast-word-of Inv-loop μ-loop
+cast-word-of c = search needs
 
-load-times-requires : tie.Need-load-times-requires
-load-times-requires c κs = search needs
+word-of-requires-5 : tie.Need-word-of-requires-5 Inv-loop μ-loop
+word-of-requires-5 c κs = search needs
 
-returns : tie.Need-returns
-returns c = loaded _ (c .before .before .before .before .before .word-of .ensures) (c .before .before .before .before .word-of2 .ensures) (c .before .before .before .word-of3 .ensures) (c .before .before .word-of4 .ensures) (c .before .load-rows .ensures) (c .load-times .ensures)
+with-row-requires : tie.Need-with-row-requires Inv-loop μ-loop
+with-row-requires c κs = record { ends = omega (arith, c .before .before .before .before .before .before .before .before .before .pre .queues, c .before .before .before .before .before .before .before .before .before .pre .long, c .before .before .before .loop .inv .gathered .queue, c .before .before .before .before .before .before .before .word-of .ensures, c .before .before .before .before .before .word-of3 .ensures) }
+
+mul-row : tie.Need-mul-row Inv-loop μ-loop
+mul-row c = search needs
+
+element-set-from-row : tie.Need-element-set-from-row Inv-loop μ-loop
+element-set-from-row c = omega (arith, c .before .before .before .before .before .before .before .before .before .before .pre .count, c .before .before .before .before .before .before .before .before .word-of .ensures)
+
+mul-chain : tie.Need-mul-chain Inv-loop μ-loop
+mul-chain c = search needs
+
+element-write-chain : tie.Need-element-write-chain Inv-loop μ-loop
+element-write-chain c = omega (arith, c .before .before .before .before .before .before .before .before .before .before .pre .count, c .before .before .before .before .before .before .before .before .word-of .ensures)
+
+add-i : tie.Need-add-i Inv-loop μ-loop
+add-i c = search needs
+
+add-at : tie.Need-add-at Inv-loop μ-loop
+add-at c = omega (arith, c .before .before .before .before .before .before .before .before .before .before .pre .queues, c .before .before .before .before .before .before .before .before .before .before .pre .long, c .before .before .before .before .loop .inv .gathered .queue, c .before .before .before .before .before .before .before .before .word-of .ensures, c .before .before .before .before .before .before .word-of3 .ensures)
+
+add-to : tie.Need-add-to Inv-loop μ-loop
+add-to c = omega (arith, c .before .before .before .before .before .before .before .before .before .before .pre .nodes, c .before .before .before .before .before .before .before .before .before .before .pre .long, c .before .before .before .before .loop .inv .gathered .node, c .before .before .before .before .before .before .before .before .word-of .ensures, c .before .before .before .before .before .word-of4 .ensures)
+
+loop-less : tie.Need-loop-less Inv-loop μ-loop
+loop-less c = search needs
+
+loop-again : tie.Need-loop-again Inv-loop μ-loop
+loop-again c = load-more _ _ _ _ _ (c .before .before .before .before .loop .inv) (omega (arith, c .before .before .before .before .before .before .before .before .before .before .pre .count, c .before .before .before .before .before .before .before .before .word-of .ensures)) (c .before .before .before .loop-test .taken) (c .before .before .row-of .ensures) (c .before .word-of5 .ensures) (c .with-row .ensures)
+
+settle-requires : tie.Need-settle-requires Inv-loop μ-loop
+settle-requires c κs = search needs
+
+returns : tie.Need-returns Inv-loop μ-loop
+returns c = load-refused (load-end _ (c .before .before .before .before .loop .inv) (c .before .before .before .before .before .before .before .before .word-of .ensures) (c .before .before .before .before .before .before .before .word-of2 .ensures) (c .before .before .before .before .before .before .word-of3 .ensures) (c .before .before .before .before .before .word-of4 .ensures) (omega (arith, c .before .before .before .before .before .before .before .before .before .before .pre .count, c .before .before .before .before .before .before .before .before .word-of .ensures)) (c .before .before .before .loop-test .left)) (c .before .before .settle .ensures) (c .if1 .taken)
+
+returns-2 : tie.Need-returns-2 Inv-loop μ-loop
+returns-2 c = load-done (load-end _ (c .before .before .before .before .loop .inv) (c .before .before .before .before .before .before .before .before .word-of .ensures) (c .before .before .before .before .before .before .before .word-of2 .ensures) (c .before .before .before .before .before .before .word-of3 .ensures) (c .before .before .before .before .before .word-of4 .ensures) (omega (arith, c .before .before .before .before .before .before .before .before .before .before .pre .count, c .before .before .before .before .before .before .before .before .word-of .ensures)) (c .before .before .before .loop-test .left)) (c .before .before .settle .ensures) (c .if1 .left)
 
 pub load-spec : {M : Type 1} → statement M
 load-spec =
     tie.close
     (tie.spec
+    Inv-loop
+    μ-loop
     word-of-requires
     word-of-requires-2
     word-of-requires-3
     word-of-requires-4
-    cast-load-rows
-    cast-load-rows-2
-    load-rows-requires
-    cast-load-times
-    cast-load-times-2
-    load-times-requires
-    returns)
+    cast-n
+    loop-holds
+    cast-row-of
+    row-of-requires
+    cast-word-of
+    word-of-requires-5
+    with-row-requires
+    mul-row
+    element-set-from-row
+    mul-chain
+    element-write-chain
+    add-i
+    add-at
+    add-to
+    loop-less
+    loop-again
+    settle-requires
+    returns
+    returns-2)

@@ -1,0 +1,44 @@
+-- `chain::checks::with_row` meets its contract: what the three checks of a row and `or_else` ensure.
+use borrow.Author.Needs.{needs}
+use mathlib.Core.Path.{refl}
+use Rattle.chain.specs.Refusals.{or-both}
+use Rattle.chain.proofs.Gather.{same-faults}
+use Rattle.chain.proofs.checks.with_row.Statement.{statement}
+use Rattle.chain.proofs.checks.with_row.Tie as tie
+
+row-range-requires : tie.Need-row-range-requires
+row-range-requires c κs = search needs
+
+or-else-requires : tie.Need-or-else-requires
+or-else-requires c κs = search needs
+
+field-check-requires : tie.Need-field-check-requires
+field-check-requires c κs = search needs
+
+or-else-requires-2 : tie.Need-or-else-requires-2
+or-else-requires-2 c κs = search needs
+
+add-test : tie.Need-add-test
+add-test c = search needs
+
+test-requires : tie.Need-test-requires
+test-requires c κs = search needs
+
+or-else-requires-3 : tie.Need-or-else-requires-3
+or-else-requires-3 c κs = search needs
+
+returns : tie.Need-returns
+returns c = same-faults (or-both (c .before .before .before .before .before .or-else .ensures) refl (c .before .before .before .before .before .before .row-range .ensures)) (or-both (c .before .before .before .or-else2 .ensures) refl (c .before .before .before .before .field-check .ensures)) (or-both (c .or-else3 .ensures) refl (c .before .test .ensures))
+
+pub with-row-spec : {M : Type 1} → statement M
+with-row-spec =
+    tie.close
+    (tie.spec
+    row-range-requires
+    or-else-requires
+    field-check-requires
+    or-else-requires-2
+    add-test
+    test-requires
+    or-else-requires-3
+    returns)
