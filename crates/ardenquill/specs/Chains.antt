@@ -1,5 +1,8 @@
--- What the public calls on a chain record promise, handed on from the crate `chain`.
-pub use Rattle.chain.specs.Refusals.{refused, fine, first, Silent, Silents}
-pub use Rattle.chain.specs.Record.{emptyChain, trimmed, answered}
-pub use Rattle.chain.specs.Checks.{countCheck, rangeCheck, orderCheck, chainRefusal, FirstOut, FirstOver, Sound, sound}
+-- What the public calls promise of chains, refusals and factory chains, handed on from the crates `words` and `chain`.
+pub use Rattle.words.specs.Rows.{none, row}
+pub use Rattle.chain.specs.Tests.{Out, In}
+pub use Rattle.chain.specs.Refusals.{refused, fine, test, orElse, first, Silent, Silents, First, first-is}
+pub use Rattle.chain.specs.Record.{rowOf, workOf, emptyChain, trimmed, answered}
+pub use Rattle.chain.specs.Checks.{Field, rowFields, fields, countCheck, rangeCheck, orderCheck, chainRefusal, FirstOut, FirstOver, count-exact, range-exact, order-exact}
+pub use Rattle.chain.specs.Sound.{SoundRow, Sound, sound}
 pub use Rattle.chain.specs.Factory.{factoryChains, factoryRefusal, factoryAnswer, factory-exact}

@@ -1,3 +1,8 @@
--- What the public calls on a chain file promise, handed on from the crate `chainfile`.
-pub use Rattle.chainfile.specs.File.{chainOf, readRefusal, readAnswer}
-pub use Rattle.chainfile.specs.Packed.{packed, packedLength, writeRefusal, Output}
+-- What the public calls promise of chain files, handed on from the crates `words` and `chainfile`.
+pub use Rattle.words.specs.Words.{bytesOf, wordAt, Bytes, Alike}
+pub use Rattle.words.specs.Rows.{rowAt}
+pub use Rattle.chainfile.specs.File.{chainOf, lengthCheck, offsetCheck, readChecks, readRefusal, readAnswer, BadLength, Misplaced, Shared}
+pub use Rattle.chainfile.specs.Packed.{packedLength, header, words, packed, roomCheck, writeChecks, writeRefusal, Output}
+pub use Rattle.chainfile.specs.Accepted.{Placed, Accepted, read-accepts, write-accepts}
+pub use Rattle.chainfile.specs.Exact.{read-1, read-2, read-3, read-4, read-5, write-2, write-4, write-5, write-10}
+pub use Rattle.chainfile.specs.RoundTrip.{packedFile, read-of-write, trimmed-read, trimmed-factory, write-of-read, packed-again, ignored}

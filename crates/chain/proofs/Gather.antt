@@ -8,7 +8,9 @@ use Rattle.words.specs.Table.{tab, tab-more, tab-alike}
 use Rattle.words.specs.declared.Queue.{Queue}
 use Rattle.chain.specs.Tests.{outside}
 use Rattle.chain.specs.Refusals.{first, orElse, first-append, first-last, test-alone}
-use Rattle.chain.specs.Checks.{outOfRange, rowFields, rowRange, nodeRange, overdrawn, noFaults, withRow, faultsOf}
+use Rattle.chain.specs.Checks.{outOfRange, rowFields, overdrawn}
+use Rattle.chain.specs.Sound.{rowRange, nodeRange}
+use Rattle.chain.specs.Faults.{noFaults, withRow, faultsOf}
 use Rattle.chain.specs.declared.Refusal.{Refusal}
 use Rattle.chain.specs.declared.checks.Faults.{Faults}
 

@@ -1,5 +1,5 @@
 -- The checks of a chain's own numbers, 2, 4 and 5, which its file and its record share (01, Numbers a call may refuse with).
---   Field                      a word with its range and its place
+--   Field, field               a word with its range and its place
 --   rowFields q at             the five fields of a row that stands at `at`, in field order
 --   fields c q w               every field in 01's order; the queue table stands at q, the node table at w
 --   countCheck n               2: n is 0 or above 16
@@ -9,13 +9,14 @@
 --                              4 and 5 of a record, with places as in its packed file
 --   chainRefusal c             what a chain handed in as a record is refused with: 2, 4, 5
 --   FirstOut, FirstOver        01's conditions of 4 and 5, in words
---   count-exact, range-exact, order-exact
+--   count-, range-, order-exact
 --                              each check speaks exactly under its condition
---   Sound c, sound             what a chain that no check refuses is, both ways
-use mathlib.Core.Path.{_≡_, sym, ap, ap₂, _∙_}
+--   count-silent, -known       and 2 is silent exactly where it does not hold
+--   count-, range-, order-only each check speaks with its own number only
+use mathlib.Core.Path.{_≡_, sym, ap, _∙_}
 use mathlib.Core.Bool.{true}
 use mathlib.Core.Logic.{_↔_, Iff·trans, Iff·and, Iff·rfl}
-use mathlib.Core.List.{List, [], _∷_, _++_, map, map-append}
+use mathlib.Core.List.{List, [], _∷_, _++_, map}
 use Prim.Native.Nat.{ℕ, _+_, _*_, _≤_, _<_}
 use native.Mathlib.Omega.{arith}
 use lib.Dec.{ltb}
@@ -25,11 +26,10 @@ use Rattle.words.specs.Flat.{flat}
 use Rattle.words.specs.Table.{tab}
 use Rattle.words.specs.declared.Queue.{Queue}
 use Rattle.chain.specs.Tests.{outside, Out, In, outside-true, outside-false, below-false}
-use Rattle.chain.specs.Refusals.{refused, fine, test, first, Silent, Silents, First, first-is, Lowest, lowest-is, first-silent, Only, only-test, only-map, only-tab, first-last, first-append, first-flat, map-tab, orElse, or-silents, all-silent, test-exact, test-silent}
+use Rattle.chain.specs.Refusals.{refused, fine, test, first, Silent, First, first-is, Lowest, lowest-is, Only, only-test, only-map, only-tab, test-exact, test-silent}
 use Rattle.chain.specs.Record.{rowOf, workOf}
 use Rattle.chain.specs.declared.Refusal.{Refusal}
 use Rattle.chain.specs.declared.Chain.{Chain}
-use Rattle.chain.specs.declared.checks.Faults.{Faults}
 
 -- a word of the file, with its range and its byte offset
 pub record Field : Type 0 where
@@ -104,7 +104,7 @@ FieldIn f = In (f .least) (f .most) (f .value)
 field-exact : (L : ℕ) (f : Field) → (outOfRange f ≡ refused 4 L) ↔ (FieldOut f × (L ≡ f .place))
 field-exact L f = Iff·trans (test-exact 4 L (f .place) (λ e. omega arith) _) (Iff·and (outside-true (f .least) (f .most) (f .value)) Iff·rfl)
 
-field-silent : (f : Field) → Silent (outOfRange f) ↔ FieldIn f
+pub field-silent : (f : Field) → Silent (outOfRange f) ↔ FieldIn f
 field-silent f = Iff·trans (test-silent 4 (f .place) (λ e. omega arith) _) (outside-false (f .least) (f .most) (f .value))
 
 -- the field at k of a list
@@ -148,7 +148,7 @@ range-exact L c q w = Iff·trans (first-is 4 L (λ e. omega arith) (map outOfRan
       before = λ j l. ap (λ (r : Refusal). r .number) (at-map j) ∙ field-silent (fieldAt fs j) .1 (f .before j l);
     }
 
-row-silent : (q : Queue) (at : ℕ) → Silent (overdrawn q at) ↔ (q .consume ≤ q .threshold)
+pub row-silent : (q : Queue) (at : ℕ) → Silent (overdrawn q at) ↔ (q .consume ≤ q .threshold)
 row-silent q at = Iff·trans (test-silent 5 (at + 8) (λ e. omega arith) _) (below-false _ _)
 
 -- 5 in words: the first row whose c is above its τ has its c at L
@@ -196,129 +196,3 @@ range-only c q w = only-map 4 outOfRange (λ f. only-test 4 (f .place) (outside 
 pub order-only : (c : Chain) (q : ℕ) → Only 5 (orderCheck c q)
 unfolding orderCheck
 order-only c q = only-tab 5 _ (λ i. only-test 5 (q + 20 * i + 8) (ltb (rowOf c i .threshold) (rowOf c i .consume))) (c .n)
-
--- check 4 part by part, as code runs it: the period, the queue rows one by one, the node rows one by one
-unfoldable pub rowRange : Queue → ℕ → Refusal
-unfolding first rowFields
-rowRange q at = first (map outOfRange (rowFields q at))
-
-abbrev pub nodeRange : ℕ → ℕ → Refusal
-nodeRange e at = outOfRange (field at 1 1000000 e)
-
-pub range-parts : (c : Chain) (q w : ℕ)
-    → rangeCheck c q w ≡ orElse (outOfRange (field 4 1 1000000 (c .period))) (orElse (first (tab (c .n) (λ i. rowRange (rowOf c i) (q + 20 * i)))) (first (tab (c .n) (λ i. nodeRange (workOf c i) (w + 4 * i)))))
-unfolding rangeCheck fields first rowRange
-range-parts c q w =
-    ap (orElse (outOfRange (field 4 1 1000000 (c .period))))
-    (ap first (map-append outOfRange rows nodes) ∙ first-append (map outOfRange rows) (map outOfRange nodes)
-    ∙ ap₂ orElse (first-flat outOfRange (λ i. rowFields (rowOf c i) (q + 20 * i)) (c .n)) (ap first (map-tab outOfRange (c .n) (λ i. field (w + 4 * i) 1 1000000 (workOf c i)))))
-  where
-    rows : List Field
-    rows = flat (λ i. rowFields (rowOf c i) (q + 20 * i)) (c .n)
-
-    nodes : List Field
-    nodes = tab (c .n) (λ i. field (w + 4 * i) 1 1000000 (workOf c i))
-
--- what a queue row in range and in order is
-pub record SoundRow (q : Queue) : Type 0 where
-  pub produce : In 1 65535 (q .produce)
-  pub threshold : In 1 65535 (q .threshold)
-  pub consume : In 1 65535 (q .consume)
-  pub capacity : q .capacity ≤ 1000000
-  pub reserved : q .reserved ≡ 0
-  pub order : q .consume ≤ q .threshold
-
--- what a chain that 2, 4 and 5 do not refuse is, wherever its tables stand
-pub record Sound (c : Chain) : Type 0 where
-  pub count : In 1 16 (c .n)
-  pub period : In 1 1000000 (c .period)
-  pub rows : (i : ℕ) → i < c .n → SoundRow (rowOf c i)
-  pub work : (i : ℕ) → i < c .n → In 1 1000000 (workOf c i)
-
-row-sound : (q : Queue) (at : ℕ) → (Silent (rowRange q at) × Silent (overdrawn q at)) ↔ SoundRow q
-unfolding rowRange rowFields Silents
-row-sound q at = (out, back)
-  where
-    fits : (p l m v : ℕ) → Silent (outOfRange (field p l m v)) ↔ In l m v
-    fits p l m v = field-silent (field p l m v)
-
-    out : Silent (rowRange q at) × Silent (overdrawn q at) → SoundRow q
-    out h =
-        let s = first-silent (map outOfRange (rowFields q at)) .0 (h .0) in
-        record {
-          produce = fits _ _ _ _ .0 (s .0);
-          threshold = fits _ _ _ _ .0 (s .1 .0);
-          consume = fits _ _ _ _ .0 (s .1 .1 .0);
-          capacity = fits _ _ _ _ .0 (s .1 .1 .1 .0) .1;
-          reserved = omega (arith, fits (at + 16) 0 0 (q .reserved) .0 (s .1 .1 .1 .1 .0) .1);
-          order = row-silent q at .0 (h .1);
-        }
-
-    back : SoundRow q → Silent (rowRange q at) × Silent (overdrawn q at)
-    back s =
-        let all : Silents (map outOfRange (rowFields q at)) = (fits _ _ _ _ .1 (s .produce), (fits _ _ _ _ .1 (s .threshold), (fits _ _ _ _ .1 (s .consume), (fits _ 0 1000000 (q .capacity) .1 (omega arith, s .capacity), (fits _ 0 0 (q .reserved) .1 (omega arith, omega (arith, s .reserved)), tt))))) in
-        (first-silent (map outOfRange (rowFields q at)) .1 all, row-silent q at .1 (s .order))
-
-range-silent : (c : Chain) (q w : ℕ) → Silent (rangeCheck c q w) ↔ (In 1 1000000 (c .period) × (((i : ℕ) → i < c .n → Silent (rowRange (rowOf c i) (q + 20 * i))) × ((i : ℕ) → i < c .n → Silent (nodeRange (workOf c i) (w + 4 * i)))))
-range-silent c q w = rw (range-parts c q w)
-    (Iff·trans (or-silents _ _) (Iff·and (field-silent (field 4 1 1000000 (c .period))) (Iff·trans (or-silents _ _) (Iff·and (all-silent _ (c .n)) (all-silent _ (c .n))))))
-
--- a chain passes 2, 4 and 5, its tables standing anywhere, exactly when it is sound
-pub sound-is : (c : Chain) (q w : ℕ) → Silents (countCheck (c .n) ∷ rangeCheck c q w ∷ orderCheck c q ∷ []) ↔ Sound c
-unfolding Silents orderCheck
-sound-is c q w = (out, back)
-  where
-    at-row : (i : ℕ) → (Silent (rowRange (rowOf c i) (q + 20 * i)) × Silent (overdrawn (rowOf c i) (q + 20 * i))) ↔ SoundRow (rowOf c i)
-    at-row i = row-sound (rowOf c i) (q + 20 * i)
-
-    at-node : (i : ℕ) → Silent (nodeRange (workOf c i) (w + 4 * i)) ↔ In 1 1000000 (workOf c i)
-    at-node i = field-silent (field (w + 4 * i) 1 1000000 (workOf c i))
-
-    out : Silents (countCheck (c .n) ∷ rangeCheck c q w ∷ orderCheck c q ∷ []) → Sound c
-    out h =
-        let r = range-silent c q w .0 (h .1 .0) in
-        let o = all-silent (λ i. overdrawn (rowOf c i) (q + 20 * i)) (c .n) .0 (h .1 .1 .0) in
-        record {
-          count = count-silent (c .n) .0 (h .0);
-          period = r .0;
-          rows = λ i l. at-row i .0 (r .1 .0 i l, o i l);
-          work = λ i l. at-node i .0 (r .1 .1 i l);
-        }
-
-    back : Sound c → Silents (countCheck (c .n) ∷ rangeCheck c q w ∷ orderCheck c q ∷ [])
-    back s = (count-silent (c .n) .1 (s .count), (range-silent c q w .1 (s .period, (λ i l. at-row i .1 (s .rows i l) .0, λ i l. at-node i .1 (s .work i l))), (all-silent (λ i. overdrawn (rowOf c i) (q + 20 * i)) (c .n) .1 (λ i l. at-row i .1 (s .rows i l) .1), tt)))
-
-pub sound : (c : Chain) → Silent (chainRefusal c) ↔ Sound c
-unfolding chainRefusal
-sound c = Iff·trans (first-silent (countCheck (c .n) ∷ recordRange c ∷ recordOrder c ∷ [])) (sound-is c 20 (20 + 20 * c .n))
-
--- the same of an answer that code was given
-pub sound-known : {r : Refusal} (c : Chain) → r ≡ chainRefusal c → Silent r → Sound c
-sound-known c e z = sound c .0 (sym (ap (λ (x : Refusal). x .number) e) ∙ z)
-
--- what is refused of the rows looked at so far: nothing yet, and with one row more, whose parts stand at `at` and `to`
-abbrev pub noFaults : Faults
-noFaults = record { rows = fine; nodes = fine; order = fine }
-
-abbrev pub withRow : Faults → Queue → ℕ → ℕ → ℕ → Faults
-withRow f q at e to = record { rows = orElse (f .rows) (rowRange q at); nodes = orElse (f .nodes) (nodeRange e to); order = orElse (f .order) (overdrawn q at) }
-
--- what is refused of the first i rows
-abbrev pub faultsOf : (ℕ → Queue) → (ℕ → ℕ) → ℕ → ℕ → ℕ → Faults
-faultsOf row e q w i = record { rows = first (tab i (λ j. rowRange (row j) (q + 20 * j))); nodes = first (tab i (λ j. nodeRange (e j) (w + 4 * j))); order = first (tab i (λ j. overdrawn (row j) (q + 20 * j))) }
-
--- 4 of the period and of the rows, then 5
-abbrev pub settled : ℕ → Faults → Refusal
-settled y f = orElse (orElse (outOfRange (field 4 1 1000000 y)) (orElse (f .rows) (f .nodes))) (f .order)
-
-pub settled-is : (c : Chain) (q w : ℕ) → settled (c .period) (faultsOf (rowOf c) (workOf c) q w (c .n)) ≡ first (rangeCheck c q w ∷ orderCheck c q ∷ [])
-unfolding orderCheck first
-settled-is c q w = ap₂ orElse (sym (range-parts c q w)) (sym (first-last (tab (c .n) (λ i. overdrawn (rowOf c i) (q + 20 * i)))))
-
--- at most as many queues as a record has slots
-pub record Few (n : ℕ) : Type 0 where
-  pub few : n ≤ 16
-
--- a queue row that stands at a place of a file
-pub record RowPlace (at : ℕ) : Type 0 where
-  pub ends : at + 20 ≤ 4096

@@ -10,7 +10,8 @@ use Rattle.words.specs.Words.{wordAt}
 use Rattle.words.specs.declared.Queue.{Queue}
 use Rattle.chain.specs.Refusals.{first, orElse, Silent, number-of, first-fine, first-append, first-last, or-left, or-right}
 use Rattle.chain.specs.Record.{rowOf, workOf, emptyChain, answered, answered-refused, answered-fine, same-chain}
-use Rattle.chain.specs.Checks.{countCheck, noFaults, withRow, settled, settled-is}
+use Rattle.chain.specs.Checks.{countCheck}
+use Rattle.chain.specs.Faults.{noFaults, withRow, settled, settled-is}
 use Rattle.chain.specs.declared.Refusal.{Refusal}
 use Rattle.chain.specs.declared.Chain.{Chain}
 use Rattle.chain.specs.declared.ChainAnswer.{ChainAnswer}

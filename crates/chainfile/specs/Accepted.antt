@@ -18,7 +18,8 @@ use borrow.Author.Tests.{le-ltb}
 use lib.ListN.{length}
 use Rattle.chain.specs.Tests.{In, below-false}
 use Rattle.chain.specs.Refusals.{fine, test, first, Silent, Silents, number-of, first-fine, first-silent, test-silent}
-use Rattle.chain.specs.Checks.{countCheck, count-silent, recordRange, recordOrder, Sound, sound-is}
+use Rattle.chain.specs.Checks.{countCheck, count-silent, recordRange, recordOrder}
+use Rattle.chain.specs.Sound.{Sound, sound-is}
 use Rattle.chain.specs.declared.Refusal.{Refusal}
 use Rattle.chain.specs.declared.Chain.{Chain}
 use Rattle.chainfile.specs.File.{countOf, queuesAt, nodesAt, totalOf, chainOf, lengthCheck, misplaced, overlap, offsetTests, offsetCheck, fileOffsets, fileRange, fileOrder, readChecks, readRefusal, length-silent, GoodTable, good-table}

@@ -20,7 +20,7 @@ use Rattle.words.specs.Rows.{none, row, rowAt, row-there, same-row, table-back,
 use Rattle.words.specs.declared.Queue.{Queue}
 use Rattle.chain.specs.Refusals.{first, Silent}
 use Rattle.chain.specs.Record.{rowOf, workOf, emptyChain, trimmed, answered, answered-fine, same-chain, trimmed-answer}
-use Rattle.chain.specs.Checks.{SoundRow, Sound}
+use Rattle.chain.specs.Sound.{SoundRow, Sound}
 use Rattle.chain.specs.Factory.{factoryChains, factoryRefusal, factoryAnswer}
 use Rattle.chain.specs.declared.Chain.{Chain}
 use Rattle.chainfile.specs.File.{countOf, periodOf, queuesAt, nodesAt, totalOf, chainOf, readChecks, readRefusal, readAnswer}

@@ -3,7 +3,8 @@ use borrow.Author.Needs.{needs}
 use mathlib.Core.Path.{_∙_, ap}
 use Prim.Native.Nat.{_+_, _*_}
 use Rattle.chain.specs.Refusals.{first, or-left, or-right}
-use Rattle.chain.specs.Checks.{chainRefusal, count-known, settled, settled-is}
+use Rattle.chain.specs.Checks.{chainRefusal, count-known}
+use Rattle.chain.specs.Faults.{settled, settled-is}
 use Rattle.chain.proofs.checks.check_chain.Statement.{statement}
 use Rattle.chain.proofs.checks.check_chain.Tie as tie
 

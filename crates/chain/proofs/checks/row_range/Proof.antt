@@ -6,7 +6,8 @@ use Rattle.chain.specs.Refusals.{test-alone}
 use mathlib.Core.Path.{_∙_}
 use native.Mathlib.Omega.{arith}
 use Rattle.chain.specs.Refusals.{first, or-left, or-right}
-use Rattle.chain.specs.Checks.{rowRange, rowFields}
+use Rattle.chain.specs.Checks.{rowFields}
+use Rattle.chain.specs.Sound.{rowRange}
 use Rattle.chain.proofs.checks.row_range.Statement.{statement}
 use Rattle.chain.proofs.checks.row_range.Tie as tie
 

@@ -3,7 +3,7 @@ use borrow.Author.Needs.{needs}
 use mathlib.Core.Path.{_∙_, sym}
 use native.Mathlib.Omega.{arith}
 use Rattle.chain.specs.Refusals.{or-left, or-right}
-use Rattle.chain.specs.Checks.{sound-known}
+use Rattle.chain.specs.Sound.{sound-known}
 use Rattle.chainfile.specs.Packed.{packed-length}
 use Rattle.chainfile.proofs.Writing.{output-refused, output-done, write-parts, room-short, room-enough}
 use Rattle.chainfile.proofs.writer.write.Statement.{statement}

@@ -1,0 +1,45 @@
+-- Checks 4 and 5 in one pass over the rows, which keeps the first fault of each kind.
+--   noFaults, withRow f q at e to   no row looked at yet, and one more: a queue row at `at` and its node row at `to`
+--   faultsOf row e q w i            what is refused of the first i rows
+--   settled y f                     4 of the period and of the rows, then 5
+--   settled-is                      which is what the two checks say
+--   Few n, RowPlace at              what the code of the pass asks: few rows, at places of a file
+use mathlib.Core.Path.{_≡_, sym, ap₂}
+use mathlib.Core.List.{[], _∷_}
+use Prim.Native.Nat.{ℕ, _+_, _*_, _≤_}
+use Rattle.words.specs.Table.{tab}
+use Rattle.words.specs.declared.Queue.{Queue}
+use Rattle.chain.specs.Refusals.{fine, first, orElse, first-last}
+use Rattle.chain.specs.Record.{rowOf, workOf}
+use Rattle.chain.specs.Checks.{field, outOfRange, overdrawn, rangeCheck, orderCheck}
+use Rattle.chain.specs.Sound.{rowRange, nodeRange, range-parts}
+use Rattle.chain.specs.declared.Refusal.{Refusal}
+use Rattle.chain.specs.declared.Chain.{Chain}
+use Rattle.chain.specs.declared.checks.Faults.{Faults}
+
+-- what is refused of the rows looked at so far: nothing yet, and with one row more, whose parts stand at `at` and `to`
+abbrev pub noFaults : Faults
+noFaults = record { rows = fine; nodes = fine; order = fine }
+
+abbrev pub withRow : Faults → Queue → ℕ → ℕ → ℕ → Faults
+withRow f q at e to = record { rows = orElse (f .rows) (rowRange q at); nodes = orElse (f .nodes) (nodeRange e to); order = orElse (f .order) (overdrawn q at) }
+
+-- what is refused of the first i rows
+abbrev pub faultsOf : (ℕ → Queue) → (ℕ → ℕ) → ℕ → ℕ → ℕ → Faults
+faultsOf row e q w i = record { rows = first (tab i (λ j. rowRange (row j) (q + 20 * j))); nodes = first (tab i (λ j. nodeRange (e j) (w + 4 * j))); order = first (tab i (λ j. overdrawn (row j) (q + 20 * j))) }
+
+-- 4 of the period and of the rows, then 5
+abbrev pub settled : ℕ → Faults → Refusal
+settled y f = orElse (orElse (outOfRange (field 4 1 1000000 y)) (orElse (f .rows) (f .nodes))) (f .order)
+
+pub settled-is : (c : Chain) (q w : ℕ) → settled (c .period) (faultsOf (rowOf c) (workOf c) q w (c .n)) ≡ first (rangeCheck c q w ∷ orderCheck c q ∷ [])
+unfolding orderCheck first
+settled-is c q w = ap₂ orElse (sym (range-parts c q w)) (sym (first-last (tab (c .n) (λ i. overdrawn (rowOf c i) (q + 20 * i)))))
+
+-- at most as many queues as a record has slots
+pub record Few (n : ℕ) : Type 0 where
+  pub few : n ≤ 16
+
+-- a queue row that stands at a place of a file
+pub record RowPlace (at : ℕ) : Type 0 where
+  pub ends : at + 20 ≤ 4096
