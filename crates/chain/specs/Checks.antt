@@ -7,26 +7,29 @@
 --   orderCheck c q             5: c above τ, the first such row
 --   recordRange c, recordOrder c
 --                              4 and 5 of a record, with places as in its packed file
---   chainRefusal c             what a chain handed in as a record is refused with: 2, 4, 5
+--   chainChecks c, chainRefusal c
+--                              the checks of a chain handed in as a record, in order, and what it is refused with
 --   FirstOut, FirstOver        01's conditions of 4 and 5, in words
 --   count-, range-, order-exact
 --                              each check speaks exactly under its condition
 --   count-silent, -known       and 2 is silent exactly where it does not hold
 --   count-, range-, order-only each check speaks with its own number only
+--   record-2, record-4, record-5
+--                              when a record is refused with each number
 use mathlib.Core.Path.{_≡_, sym, ap, _∙_}
 use mathlib.Core.Bool.{true}
-use mathlib.Core.Logic.{_↔_, Iff·trans, Iff·and, Iff·rfl}
+use mathlib.Core.Logic.{_↔_, Iff·trans, Iff·and, Iff·rfl, true-and}
 use mathlib.Core.List.{List, [], _∷_, _++_, map}
 use Prim.Native.Nat.{ℕ, _+_, _*_, _≤_, _<_}
 use native.Mathlib.Omega.{arith}
 use lib.Dec.{ltb}
 use borrow.Author.Tests.{lt-ltb, ltb-true}
-use lib.ListN.{length, getD, length-map, List·getD-map}
+use lib.ListN.{length, getD, take, length-map, List·getD-map}
 use Rattle.words.specs.Flat.{flat}
 use Rattle.words.specs.Table.{tab}
 use Rattle.words.specs.declared.Queue.{Queue}
 use Rattle.chain.specs.Tests.{outside, Out, In, outside-true, outside-false, below-false}
-use Rattle.chain.specs.Refusals.{refused, fine, test, first, Silent, First, first-is, Lowest, lowest-is, Only, only-test, only-map, only-tab, test-exact, test-silent}
+use Rattle.chain.specs.Refusals.{Silents, Numbered, exact-at, refused, fine, test, first, Silent, First, first-is, Lowest, lowest-is, Only, only-test, only-map, only-tab, test-exact, test-silent}
 use Rattle.chain.specs.Record.{rowOf, workOf}
 use Rattle.chain.specs.declared.Refusal.{Refusal}
 use Rattle.chain.specs.declared.Chain.{Chain}
@@ -80,9 +83,12 @@ abbrev pub recordOrder : Chain → Refusal
 recordOrder c = orderCheck c 20
 
 -- "a chain handed in as a record passes checks 2, 4, 5 again"
+abbrev pub chainChecks : Chain → List Refusal
+chainChecks c = countCheck (c .n) ∷ recordRange c ∷ recordOrder c ∷ []
+
 unfoldable pub chainRefusal : Chain → Refusal
 unfolding first rangeCheck orderCheck
-chainRefusal c = first (countCheck (c .n) ∷ recordRange c ∷ recordOrder c ∷ [])
+chainRefusal c = first (chainChecks c)
 
 pub count-exact : (L n : ℕ) → (countCheck n ≡ refused 2 L) ↔ (Out 1 16 n × (L ≡ 0))
 count-exact L n = Iff·trans (test-exact 2 L 0 (λ e. omega arith) (outside 1 16 n)) (Iff·and (outside-true 1 16 n) Iff·rfl)
@@ -196,3 +202,19 @@ range-only c q w = only-map 4 outOfRange (λ f. only-test 4 (f .place) (outside 
 pub order-only : (c : Chain) (q : ℕ) → Only 5 (orderCheck c q)
 unfolding orderCheck
 order-only c q = only-tab 5 _ (λ i. only-test 5 (q + 20 * i + 8) (ltb (rowOf c i .threshold) (rowOf c i .consume))) (c .n)
+
+-- a record is refused with a number exactly when no earlier check speaks and the number's own condition holds
+module _ (c : Chain) (L : ℕ) where
+  record-at : (k : ℕ) → k < 3 → (chainRefusal c ≡ refused (getD (2 ∷ 4 ∷ 5 ∷ []) k 0) L) ↔ (Silents (take k (chainChecks c)) × (getD (chainChecks c) k fine ≡ refused (getD (2 ∷ 4 ∷ 5 ∷ []) k 0) L))
+  unfolding chainRefusal Numbered
+  record-at k l = exact-at (2 ∷ 4 ∷ 5 ∷ []) (chainChecks c) (count-only (c .n), (range-only c 20 (20 + 20 * c .n), (order-only c 20, tt))) tt k L l
+
+  pub record-2 : (chainRefusal c ≡ refused 2 L) ↔ (Out 1 16 (c .n) × (L ≡ 0))
+  unfolding Silents
+  record-2 = Iff·trans (record-at 0 (omega arith)) (Iff·trans true-and (count-exact L (c .n)))
+
+  pub record-4 : (chainRefusal c ≡ refused 4 L) ↔ (Silents (countCheck (c .n) ∷ []) × FirstOut (fields c 20 (20 + 20 * c .n)) L)
+  record-4 = Iff·trans (record-at 1 (omega arith)) (Iff·and Iff·rfl (range-exact L c 20 (20 + 20 * c .n)))
+
+  pub record-5 : (chainRefusal c ≡ refused 5 L) ↔ (Silents (countCheck (c .n) ∷ recordRange c ∷ []) × FirstOver c 20 L)
+  record-5 = Iff·trans (record-at 2 (omega arith)) (Iff·and Iff·rfl (order-exact L c 20))

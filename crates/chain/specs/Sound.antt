@@ -15,7 +15,7 @@ use Rattle.words.specs.declared.Queue.{Queue}
 use Rattle.chain.specs.Tests.{In}
 use Rattle.chain.specs.Refusals.{first, orElse, Silent, Silents, number-of, first-silent, first-append, first-flat, map-tab, or-silents, all-silent}
 use Rattle.chain.specs.Record.{rowOf, workOf}
-use Rattle.chain.specs.Checks.{Field, field, rowFields, fields, outOfRange, overdrawn, countCheck, rangeCheck, orderCheck, recordRange, recordOrder, chainRefusal, count-silent, field-silent, row-silent}
+use Rattle.chain.specs.Checks.{Field, field, rowFields, fields, outOfRange, overdrawn, countCheck, rangeCheck, orderCheck, chainChecks, chainRefusal, count-silent, field-silent, row-silent}
 use Rattle.chain.specs.declared.Refusal.{Refusal}
 use Rattle.chain.specs.declared.Chain.{Chain}
 
@@ -113,7 +113,7 @@ sound-is c q w = (out, back)
 
 pub sound : (c : Chain) → Silent (chainRefusal c) ↔ Sound c
 unfolding chainRefusal
-sound c = Iff·trans (first-silent (countCheck (c .n) ∷ recordRange c ∷ recordOrder c ∷ [])) (sound-is c 20 (20 + 20 * c .n))
+sound c = Iff·trans (first-silent (chainChecks c)) (sound-is c 20 (20 + 20 * c .n))
 
 -- the same of an answer that code was given
 pub sound-known : {r : Refusal} (c : Chain) → r ≡ chainRefusal c → Silent r → Sound c

@@ -13,22 +13,23 @@
 --   BadTable, Shared, Misplaced
 --                              01's condition of 3, in words
 --   length-exact, offset-exact each check speaks exactly under its condition
---   Placed f, placed           what 1, 2 and 3 leave to be known of a file
+--   length-only, offset-only   and with its own number only
+--   read-1 .. read-5           when a file is refused with each number
 use mathlib.Core.Path.{_≡_}
 use mathlib.Core.Bool.{Bool, true, false, _||_, _&&_, not}
-use mathlib.Core.Logic.{_↔_, _≢_, _⊎_, Iff·trans, Iff·and, Iff·rfl}
+use mathlib.Core.Logic.{_↔_, _≢_, _⊎_, Iff·trans, Iff·and, Iff·rfl, true-and}
 use mathlib.Core.List.{List, [], _∷_}
 use Prim.Native.Nat.{ℕ, _+_, _*_, _%_, _≤_, _<_, max}
 use native.Mathlib.Omega.{arith}
 use lib.Dec.{ltb, eqb}
-use lib.ListN.{length}
+use lib.ListN.{length, getD, take}
 use Rattle.words.specs.Rows.{none, rowAt}
 use Rattle.words.specs.Table.{slots}
 use Rattle.words.specs.Words.{wordAt}
-use Rattle.chain.specs.Refusals.{refused, test, first, Silent, Only, only-test, only-fine, only-or, test-exact, test-silent, or-says, says-last}
+use Rattle.chain.specs.Refusals.{fine, Silents, Numbered, exact-at, refused, test, first, Silent, Only, only-test, only-fine, only-or, test-exact, test-silent, or-says, says-last}
 use Rattle.chain.specs.Record.{answered}
-use Rattle.chain.specs.Tests.{outside, Out, In, outside-true, outside-false, or-true, or-false, and-true, sum-iff, below-true, below-false, differ-true, differ-false}
-use Rattle.chain.specs.Checks.{countCheck, rangeCheck, orderCheck}
+use Rattle.chain.specs.Tests.{under, outside, Out, In, outside-true, outside-false, or-true, or-false, and-true, sum-iff, below-true, below-false, differ-true, differ-false}
+use Rattle.chain.specs.Checks.{countCheck, rangeCheck, orderCheck, fields, FirstOut, FirstOver, count-exact, count-silent, range-exact, order-exact, count-only, range-only, order-only}
 use Rattle.chain.specs.declared.Refusal.{Refusal}
 use Rattle.chain.specs.declared.Chain.{Chain}
 use Rattle.chain.specs.declared.ChainAnswer.{ChainAnswer}
@@ -172,3 +173,30 @@ unfolding offsetCheck first
 offset-only len n q w =
     only-or _ _ (only-test 3 8 (misplaced len q (q + 20 * n)))
     (only-or _ _ (only-test 3 12 (misplaced len w (w + 4 * n))) (only-or _ _ (only-test 3 12 (overlap q (q + 20 * n) w (w + 4 * n))) (only-fine 3)))
+
+-- a file is refused with a number exactly when no earlier check speaks and the number's own condition holds
+module _ (f : List ℕ) (L : ℕ) where
+  -- check k of the reader's list is number k + 1
+  read-at : (k : ℕ) → k < 5 → (readRefusal f ≡ refused (getD (1 ∷ 2 ∷ 3 ∷ 4 ∷ 5 ∷ []) k 0) L) ↔ (Silents (take k (readChecks f)) × (getD (readChecks f) k fine ≡ refused (getD (1 ∷ 2 ∷ 3 ∷ 4 ∷ 5 ∷ []) k 0) L))
+  unfolding readRefusal Numbered
+  read-at k l = exact-at (1 ∷ 2 ∷ 3 ∷ 4 ∷ 5 ∷ []) (readChecks f)
+      (length-only f, (count-only (countOf f), (offset-only (length f) (countOf f) (queuesAt f) (nodesAt f), (range-only (chainOf f) (queuesAt f) (nodesAt f), (order-only (chainOf f) (queuesAt f), tt)))))
+      tt k L l
+
+  pub read-1 : (readRefusal f ≡ refused 1 L) ↔ (BadLength f × (L ≡ 0))
+  unfolding Silents
+  read-1 = Iff·trans (read-at 0 (omega arith)) (Iff·trans true-and (length-exact L f))
+
+  pub read-2 : (readRefusal f ≡ refused 2 L) ↔ (Silents (lengthCheck f ∷ []) × (Out 1 16 (countOf f) × (L ≡ 0)))
+  read-2 = Iff·trans (read-at 1 (omega arith)) (Iff·and Iff·rfl (count-exact L (countOf f)))
+
+  pub read-3 : (readRefusal f ≡ refused 3 L) ↔ (Silents (lengthCheck f ∷ countCheck (countOf f) ∷ []) × Misplaced (length f) (countOf f) (queuesAt f) (nodesAt f) L)
+  unfolding Silents
+  read-3 = Iff·trans (read-at 2 (omega arith))
+      (under (λ s. offset-exact L (length f) (countOf f) (queuesAt f) (nodesAt f) (count-silent (countOf f) .0 (s .1 .0) .0)))
+
+  pub read-4 : (readRefusal f ≡ refused 4 L) ↔ (Silents (lengthCheck f ∷ countCheck (countOf f) ∷ fileOffsets f ∷ []) × FirstOut (fields (chainOf f) (queuesAt f) (nodesAt f)) L)
+  read-4 = Iff·trans (read-at 3 (omega arith)) (Iff·and Iff·rfl (range-exact L (chainOf f) (queuesAt f) (nodesAt f)))
+
+  pub read-5 : (readRefusal f ≡ refused 5 L) ↔ (Silents (lengthCheck f ∷ countCheck (countOf f) ∷ fileOffsets f ∷ fileRange f ∷ []) × FirstOver (chainOf f) (queuesAt f) L)
+  read-5 = Iff·trans (read-at 4 (omega arith)) (Iff·and Iff·rfl (order-exact L (chainOf f) (queuesAt f)))

@@ -1,5 +1,4 @@
 pub mod File
 pub mod Packed
 pub mod Accepted
-pub mod Exact
 pub mod RoundTrip

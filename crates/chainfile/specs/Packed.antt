@@ -9,21 +9,26 @@
 --   Output r t o p a     what a call that writes a text t into lent bytes o answers and leaves there, its refusal being r
 --   output-fine          what it is where nothing is refused
 --   room-exact           10 is said exactly under its condition
+--   write-2, write-4, write-5, write-10
+--                        when a chain is refused with each number
+--   packed-length, packed-parts
+--                        how long the packed file is, and what it is made of
+--   TableFits, Fits      what the code of the writer asks: few queues, and room
 use mathlib.Core.Path.{_≡_, refl, ap, _∙_}
 use mathlib.Core.Bool.{cond}
-use mathlib.Core.Logic.{_↔_, Iff·trans, Iff·and, Iff·rfl}
+use mathlib.Core.Logic.{_↔_, Iff·trans, Iff·and, Iff·rfl, true-and}
 use mathlib.Core.List.{List, [], _∷_, _++_}
 use Prim.Native.Nat.{ℕ, _+_, _*_, _≤_, _<_}
 use native.Mathlib.Omega.{arith}
 use lib.Dec.{ltb, eqb}
-use lib.ListN.{length, drop, length-append}
+use lib.ListN.{length, drop, length-append, getD, take}
 use Rattle.words.specs.Flat.{flat, flat-length}
 use Rattle.words.specs.Words.{bytesOf, bytes-append, bytes-length}
 use Rattle.words.specs.Rows.{row}
-use Rattle.chain.specs.Tests.{below-true}
-use Rattle.chain.specs.Refusals.{refused, fine, test, first, Only, only-test, test-exact}
+use Rattle.chain.specs.Tests.{Out, below-true}
+use Rattle.chain.specs.Refusals.{Silents, Numbered, exact-at, refused, fine, test, first, Only, only-test, test-exact}
 use Rattle.chain.specs.Record.{rowOf, workOf}
-use Rattle.chain.specs.Checks.{countCheck, rangeCheck, orderCheck, recordRange, recordOrder}
+use Rattle.chain.specs.Checks.{countCheck, rangeCheck, orderCheck, recordRange, recordOrder, fields, FirstOut, FirstOver, count-exact, range-exact, order-exact, count-only, range-only, order-only}
 use Rattle.chain.specs.declared.Refusal.{Refusal}
 use Rattle.chain.specs.declared.Chain.{Chain}
 use Rattle.chainfile.specs.declared.LengthAnswer.{LengthAnswer}
@@ -79,6 +84,27 @@ room-exact L need room = Iff·trans (test-exact 10 L need (λ e. omega arith) _)
 
 pub room-only : (need room : ℕ) → Only 10 (roomCheck need room)
 room-only need room = only-test 10 need (ltb room need)
+
+-- a chain is refused with a number exactly when no earlier check speaks and the number's own condition holds
+module _ (c : Chain) (room L : ℕ) where
+  write-at : (k : ℕ) → k < 4 → (writeRefusal c room ≡ refused (getD (2 ∷ 4 ∷ 5 ∷ 10 ∷ []) k 0) L) ↔ (Silents (take k (writeChecks c room)) × (getD (writeChecks c room) k fine ≡ refused (getD (2 ∷ 4 ∷ 5 ∷ 10 ∷ []) k 0) L))
+  unfolding writeRefusal Numbered
+  write-at k l = exact-at (2 ∷ 4 ∷ 5 ∷ 10 ∷ []) (writeChecks c room)
+      (count-only (c .n), (range-only c 20 (20 + 20 * c .n), (order-only c 20, (room-only (packedLength (c .n)) room, tt))))
+      tt k L l
+
+  pub write-2 : (writeRefusal c room ≡ refused 2 L) ↔ (Out 1 16 (c .n) × (L ≡ 0))
+  unfolding Silents
+  write-2 = Iff·trans (write-at 0 (omega arith)) (Iff·trans true-and (count-exact L (c .n)))
+
+  pub write-4 : (writeRefusal c room ≡ refused 4 L) ↔ (Silents (countCheck (c .n) ∷ []) × FirstOut (fields c 20 (20 + 20 * c .n)) L)
+  write-4 = Iff·trans (write-at 1 (omega arith)) (Iff·and Iff·rfl (range-exact L c 20 (20 + 20 * c .n)))
+
+  pub write-5 : (writeRefusal c room ≡ refused 5 L) ↔ (Silents (countCheck (c .n) ∷ recordRange c ∷ []) × FirstOver c 20 L)
+  write-5 = Iff·trans (write-at 2 (omega arith)) (Iff·and Iff·rfl (order-exact L c 20))
+
+  pub write-10 : (writeRefusal c room ≡ refused 10 L) ↔ (Silents (countCheck (c .n) ∷ recordRange c ∷ recordOrder c ∷ []) × ((room < packedLength (c .n)) × (L ≡ packedLength (c .n))))
+  write-10 = Iff·trans (write-at 3 (omega arith)) (Iff·and Iff·rfl (room-exact L (packedLength (c .n)) room))
 
 -- how long the tables and the file are
 pub rows-length : (c : Chain) (i : ℕ) → length (rows c i) ≡ 5 * i
