@@ -1,35 +1,42 @@
 -- The checks of a chain's own numbers, 2, 4 and 5, which its file and its record share (01, Numbers a call may refuse with).
---   Field, field               a word with its range and its place
+--   Field, field, ticks        a word with its range and its place
 --   rowFields q at             the five fields of a row that stands at `at`, in field order
 --   fields c q w               every field in 01's order; the queue table stands at q, the node table at w
+--   row-values, row-places     they are the row's words, four bytes apart
 --   countCheck n               2: n is 0 or above 16
---   rangeCheck c q w           4: a field out of range, the first in that order
---   orderCheck c q             5: c above τ, the first such row
+--   outOfRange f, rangeCheck c q w
+--                              4 of one field; and of a chain, the first in that order
+--   overdrawn q at, orderCheck c q
+--                              5 of one row, c above τ; and of a chain, the first such row
 --   recordRange c, recordOrder c
 --                              4 and 5 of a record, with places as in its packed file
 --   chainChecks c, chainRefusal c
 --                              the checks of a chain handed in as a record, in order, and what it is refused with
---   FirstOut, FirstOver        01's conditions of 4 and 5, in words
+--   FieldOut, FieldIn, fieldAt, FirstOut, FirstOver
+--                              01's conditions of 4 and 5, in words
 --   count-, range-, order-exact
 --                              each check speaks exactly under its condition
---   count-silent, -known       and 2 is silent exactly where it does not hold
+--   count-, field-, row-silent, count-known
+--                              and is silent exactly where it does not hold
 --   count-, range-, order-only each check speaks with its own number only
 --   record-2, record-4, record-5
 --                              when a record is refused with each number
-use mathlib.Core.Path.{_≡_, sym, ap, _∙_}
+use mathlib.Core.Path.{_≡_, refl, sym, ap, _∙_}
 use mathlib.Core.Bool.{true}
 use mathlib.Core.Logic.{_↔_, Iff·trans, Iff·and, Iff·rfl, true-and}
 use mathlib.Core.List.{List, [], _∷_, _++_, map}
 use Prim.Native.Nat.{ℕ, _+_, _*_, _≤_, _<_}
+use native.Mathlib.Nat.{add-zero}
 use native.Mathlib.Omega.{arith}
 use lib.Dec.{ltb}
 use borrow.Author.Tests.{lt-ltb, ltb-true}
 use lib.ListN.{length, getD, take, length-map, List·getD-map}
 use Rattle.words.specs.Flat.{flat}
 use Rattle.words.specs.Table.{tab}
+use Rattle.words.specs.Rows.{row}
 use Rattle.words.specs.declared.Queue.{Queue}
 use Rattle.chain.specs.Tests.{outside, Out, In, outside-true, outside-false, below-false}
-use Rattle.chain.specs.Refusals.{Silents, Numbered, exact-at, refused, fine, test, first, Silent, First, first-is, Lowest, lowest-is, Only, only-test, only-map, only-tab, test-exact, test-silent}
+use Rattle.chain.specs.Refusals.{silent-as, Silents, Numbered, exact-at, refused, fine, test, first, Silent, First, first-is, Lowest, lowest-is, Only, only-test, only-map, only-tab, test-exact, test-silent}
 use Rattle.chain.specs.Record.{rowOf, workOf}
 use Rattle.chain.specs.declared.Refusal.{Refusal}
 use Rattle.chain.specs.declared.Chain.{Chain}
@@ -44,14 +51,33 @@ pub record Field : Type 0 where
 abbrev pub field : ℕ → ℕ → ℕ → ℕ → Field
 field at least most v = record { place = at; least = least; most = most; value = v }
 
+-- "y and e 1 to 1,000,000"
+abbrev pub ticks : ℕ → ℕ → Field
+ticks at v = field at 1 1000000 v
+
 -- "p, τ, c 1 to 65,535; B 0 to 1,000,000; reserved 0", in the order of the row's words
 unfoldable pub rowFields : Queue → ℕ → List Field
-rowFields q at = field at 1 65535 (q .produce) ∷ field (at + 4) 1 65535 (q .threshold) ∷ field (at + 8) 1 65535 (q .consume) ∷ field (at + 12) 0 1000000 (q .capacity) ∷ field (at + 16) 0 0 (q .reserved) ∷ []
+rowFields q at =
+    field at 1 65535 (q .produce)
+    ∷ field (at + 4) 1 65535 (q .threshold)
+    ∷ field (at + 8) 1 65535 (q .consume)
+    ∷ field (at + 12) 0 1000000 (q .capacity)
+    ∷ field (at + 16) 0 0 (q .reserved)
+    ∷ []
 
--- "y and e 1 to 1,000,000": "y, then queue rows in order and field order, then node rows"
+-- field k of a row is the row's word k, and stands 4 * k bytes behind where the row does
+pub row-values : (q : Queue) (at : ℕ) → map (λ (f : Field). f .value) (rowFields q at) ≡ row q
+unfolding rowFields
+row-values q at = refl
+
+pub row-places : (q : Queue) (at : ℕ) → map (λ (f : Field). f .place) (rowFields q at) ≡ tab 5 (λ k. at + 4 * k)
+unfolding rowFields tab
+row-places q at = rw (add-zero at)
+
+-- "y, then queue rows in order and field order, then node rows"
 unfoldable pub fields : Chain → ℕ → ℕ → List Field
 unfolding rowFields flat tab
-fields c q w = field 4 1 1000000 (c .period) ∷ (flat (λ i. rowFields (rowOf c i) (q + 20 * i)) (c .n) ++ tab (c .n) (λ i. field (w + 4 * i) 1 1000000 (workOf c i)))
+fields c q w = ticks 4 (c .period) ∷ (flat (λ i. rowFields (rowOf c i) (q + 20 * i)) (c .n) ++ tab (c .n) (λ i. ticks (w + 4 * i) (workOf c i)))
 
 -- 2: "n is 0 or above 16", place 0
 abbrev pub countCheck : ℕ → Refusal
@@ -98,7 +124,7 @@ count-silent n = Iff·trans (test-silent 2 0 (λ e. omega arith) (outside 1 16 n
 
 -- the same of an answer that code was given
 pub count-known : {r : Refusal} (n : ℕ) → r ≡ countCheck n → Silent r → In 1 16 n
-count-known n e z = count-silent n .0 (sym (ap (λ (x : Refusal). x .number) e) ∙ z)
+count-known n e z = count-silent n .0 (silent-as e z)
 
 -- a field is out of its range, or in it
 abbrev pub FieldOut : Field → Type 0
@@ -143,7 +169,7 @@ range-exact L c q w = Iff·trans (first-is 4 L (λ e. omega arith) (map outOfRan
           inside = rw (length-map fs outOfRange) at (f .inside);
           wrong = e .0;
           place = e .1;
-          before = λ j l. field-silent (fieldAt fs j) .0 (ap (λ (r : Refusal). r .number) (sym (at-map j)) ∙ f .before j l);
+          before = λ j l. field-silent (fieldAt fs j) .0 (silent-as (at-map j) (f .before j l));
         }
 
     back : FirstOut fs L → First (map outOfRange fs) 4 L
@@ -151,7 +177,7 @@ range-exact L c q w = Iff·trans (first-is 4 L (λ e. omega arith) (map outOfRan
       at = f .at;
       inside = rw (length-map fs outOfRange) (f .inside);
       says = at-map (f .at) ∙ field-exact L (fieldAt fs (f .at)) .1 (f .wrong, f .place);
-      before = λ j l. ap (λ (r : Refusal). r .number) (at-map j) ∙ field-silent (fieldAt fs j) .1 (f .before j l);
+      before = λ j l. silent-as (sym (at-map j)) (field-silent (fieldAt fs j) .1 (f .before j l));
     }
 
 pub row-silent : (q : Queue) (at : ℕ) → Silent (overdrawn q at) ↔ (q .consume ≤ q .threshold)

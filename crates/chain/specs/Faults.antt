@@ -11,7 +11,7 @@ use Rattle.words.specs.Table.{tab}
 use Rattle.words.specs.declared.Queue.{Queue}
 use Rattle.chain.specs.Refusals.{fine, first, orElse, first-last}
 use Rattle.chain.specs.Record.{rowOf, workOf}
-use Rattle.chain.specs.Checks.{field, outOfRange, overdrawn, rangeCheck, orderCheck}
+use Rattle.chain.specs.Checks.{ticks, outOfRange, overdrawn, rangeCheck, orderCheck}
 use Rattle.chain.specs.Sound.{rowRange, nodeRange, range-parts}
 use Rattle.chain.specs.declared.Refusal.{Refusal}
 use Rattle.chain.specs.declared.Chain.{Chain}
@@ -30,7 +30,7 @@ faultsOf row e q w i = record { rows = first (tab i (λ j. rowRange (row j) (q +
 
 -- 4 of the period and of the rows, then 5
 abbrev pub settled : ℕ → Faults → Refusal
-settled y f = orElse (orElse (outOfRange (field 4 1 1000000 y)) (orElse (f .rows) (f .nodes))) (f .order)
+settled y f = orElse (orElse (outOfRange (ticks 4 y)) (orElse (f .rows) (f .nodes))) (f .order)
 
 pub settled-is : (c : Chain) (q w : ℕ) → settled (c .period) (faultsOf (rowOf c) (workOf c) q w (c .n)) ≡ first (rangeCheck c q w ∷ orderCheck c q ∷ [])
 unfolding orderCheck first

@@ -75,12 +75,16 @@ speaks? r = by-cases (ℕ-discrete (r .number) 0)
 pub number-of : {r s : Refusal} → r ≡ s → r .number ≡ s .number
 number-of e = ap (λ (x : Refusal). x .number) e
 
+-- what was answered for a check is silent where the check is
+pub silent-as : {r s : Refusal} → r ≡ s → Silent r → Silent s
+silent-as e z = sym (number-of e) ∙ z
+
 -- the two cases of a check and the next one, as code has them: r was answered for a
 pub or-left : {a r : Refusal} (b : Refusal) → r ≡ a → (Silent r → ⊥) → r ≡ orElse a b
 or-left {a} b e h = e ∙ sym (or-speaks a b (λ z. h (number-of e ∙ z)))
 
 pub or-right : {a b r s : Refusal} → r ≡ a → Silent r → s ≡ b → s ≡ orElse a b
-or-right {a} {b} e h g = g ∙ sym (or-silent a b (sym (number-of e) ∙ h))
+or-right {a} {b} e h g = g ∙ sym (or-silent a b (silent-as e h))
 
 pub or-both : {a b r s t : Refusal} → r ≡ orElse s t → s ≡ a → t ≡ b → r ≡ orElse a b
 or-both e f g = e ∙ ap₂ orElse f g
@@ -104,13 +108,13 @@ unfolding first Silents
 first-silent [] = (λ h. tt, λ h. refl)
 first-silent (r ∷ rs) = Iff·trans (or-silents r (first rs)) (Iff·and Iff·rfl (first-silent rs))
 
-pub silents-at : (rs : List Refusal) → Silents rs → (j : ℕ) → Silent (getD rs j fine)
+silents-at : (rs : List Refusal) → Silents rs → (j : ℕ) → Silent (getD rs j fine)
 unfolding Silents
 silents-at [] h j = refl
 silents-at (r ∷ rs) h zero = h .0
 silents-at (r ∷ rs) h (suc j) = silents-at rs (h .1) j
 
-pub silents-all : (rs : List Refusal) → ((j : ℕ) → j < length rs → Silent (getD rs j fine)) → Silents rs
+silents-all : (rs : List Refusal) → ((j : ℕ) → j < length rs → Silent (getD rs j fine)) → Silents rs
 unfolding Silents
 silents-all [] h = tt
 silents-all (r ∷ rs) h = (h 0 (omega arith), silents-all rs (λ j l. h (suc j) (omega arith)))

@@ -13,9 +13,9 @@ use Rattle.words.specs.Flat.{flat}
 use Rattle.words.specs.Table.{tab}
 use Rattle.words.specs.declared.Queue.{Queue}
 use Rattle.chain.specs.Tests.{In}
-use Rattle.chain.specs.Refusals.{first, orElse, Silent, Silents, number-of, first-silent, first-append, first-flat, map-tab, or-silents, all-silent}
+use Rattle.chain.specs.Refusals.{first, orElse, Silent, Silents, silent-as, first-silent, first-append, first-flat, map-tab, or-silents, all-silent}
 use Rattle.chain.specs.Record.{rowOf, workOf}
-use Rattle.chain.specs.Checks.{Field, field, rowFields, fields, outOfRange, overdrawn, countCheck, rangeCheck, orderCheck, chainChecks, chainRefusal, count-silent, field-silent, row-silent}
+use Rattle.chain.specs.Checks.{Field, field, ticks, rowFields, fields, outOfRange, overdrawn, countCheck, rangeCheck, orderCheck, chainChecks, chainRefusal, count-silent, field-silent, row-silent}
 use Rattle.chain.specs.declared.Refusal.{Refusal}
 use Rattle.chain.specs.declared.Chain.{Chain}
 
@@ -25,22 +25,22 @@ unfolding first rowFields
 rowRange q at = first (map outOfRange (rowFields q at))
 
 abbrev pub nodeRange : ℕ → ℕ → Refusal
-nodeRange e at = outOfRange (field at 1 1000000 e)
+nodeRange e at = outOfRange (ticks at e)
 
 -- 4 part by part
 pub range-parts : (c : Chain) (q w : ℕ)
-    → rangeCheck c q w ≡ orElse (outOfRange (field 4 1 1000000 (c .period))) (orElse (first (tab (c .n) (λ i. rowRange (rowOf c i) (q + 20 * i)))) (first (tab (c .n) (λ i. nodeRange (workOf c i) (w + 4 * i)))))
+    → rangeCheck c q w ≡ orElse (outOfRange (ticks 4 (c .period))) (orElse (first (tab (c .n) (λ i. rowRange (rowOf c i) (q + 20 * i)))) (first (tab (c .n) (λ i. nodeRange (workOf c i) (w + 4 * i)))))
 unfolding rangeCheck fields first rowRange
 range-parts c q w =
-    ap (orElse (outOfRange (field 4 1 1000000 (c .period))))
+    ap (orElse (outOfRange (ticks 4 (c .period))))
     (ap first (map-append outOfRange rows nodes) ∙ first-append (map outOfRange rows) (map outOfRange nodes)
-    ∙ ap₂ orElse (first-flat outOfRange (λ i. rowFields (rowOf c i) (q + 20 * i)) (c .n)) (ap first (map-tab outOfRange (c .n) (λ i. field (w + 4 * i) 1 1000000 (workOf c i)))))
+    ∙ ap₂ orElse (first-flat outOfRange (λ i. rowFields (rowOf c i) (q + 20 * i)) (c .n)) (ap first (map-tab outOfRange (c .n) (λ i. ticks (w + 4 * i) (workOf c i)))))
   where
     rows : List Field
     rows = flat (λ i. rowFields (rowOf c i) (q + 20 * i)) (c .n)
 
     nodes : List Field
-    nodes = tab (c .n) (λ i. field (w + 4 * i) 1 1000000 (workOf c i))
+    nodes = tab (c .n) (λ i. ticks (w + 4 * i) (workOf c i))
 
 -- what a queue row in range and in order is
 pub record SoundRow (q : Queue) : Type 0 where
@@ -84,7 +84,7 @@ row-sound q at = (out, back)
 
 range-silent : (c : Chain) (q w : ℕ) → Silent (rangeCheck c q w) ↔ (In 1 1000000 (c .period) × (((i : ℕ) → i < c .n → Silent (rowRange (rowOf c i) (q + 20 * i))) × ((i : ℕ) → i < c .n → Silent (nodeRange (workOf c i) (w + 4 * i)))))
 range-silent c q w = rw (range-parts c q w)
-    (Iff·trans (or-silents _ _) (Iff·and (field-silent (field 4 1 1000000 (c .period))) (Iff·trans (or-silents _ _) (Iff·and (all-silent _ (c .n)) (all-silent _ (c .n))))))
+    (Iff·trans (or-silents _ _) (Iff·and (field-silent (ticks 4 (c .period))) (Iff·trans (or-silents _ _) (Iff·and (all-silent _ (c .n)) (all-silent _ (c .n))))))
 
 -- a chain passes 2, 4 and 5, its tables standing anywhere, exactly when it is sound
 pub sound-is : (c : Chain) (q w : ℕ) → Silents (countCheck (c .n) ∷ rangeCheck c q w ∷ orderCheck c q ∷ []) ↔ Sound c
@@ -95,7 +95,7 @@ sound-is c q w = (out, back)
     at-row i = row-sound (rowOf c i) (q + 20 * i)
 
     at-node : (i : ℕ) → Silent (nodeRange (workOf c i) (w + 4 * i)) ↔ In 1 1000000 (workOf c i)
-    at-node i = field-silent (field (w + 4 * i) 1 1000000 (workOf c i))
+    at-node i = field-silent (ticks (w + 4 * i) (workOf c i))
 
     out : Silents (countCheck (c .n) ∷ rangeCheck c q w ∷ orderCheck c q ∷ []) → Sound c
     out h =
@@ -117,4 +117,4 @@ sound c = Iff·trans (first-silent (chainChecks c)) (sound-is c 20 (20 + 20 * c 
 
 -- the same of an answer that code was given
 pub sound-known : {r : Refusal} (c : Chain) → r ≡ chainRefusal c → Silent r → Sound c
-sound-known c e z = sound c .0 (sym (number-of e) ∙ z)
+sound-known c e z = sound c .0 (silent-as e z)

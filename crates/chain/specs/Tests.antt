@@ -22,9 +22,6 @@ or-false {a = false} h k = (λ e. (h .0 refl, k .0 e), λ s. k .1 (s .1))
 pub sum-iff : {A B C D : Type 0} → A ↔ C → B ↔ D → (A ⊎ B) ↔ (C ⊎ D)
 sum-iff h k = (⊎-elim (λ a. inl (h .0 a)) (λ b. inr (k .0 b)), ⊎-elim (λ c. inl (h .1 c)) (λ d. inr (k .1 d)))
 
-pub under : {A B C : Type 0} → (A → B ↔ C) → (A × B) ↔ (A × C)
-under h = (λ p. (p .0, h (p .0) .0 (p .1)), λ p. (p .0, h (p .0) .1 (p .1)))
-
 pub differ-true : (a b : ℕ) → (not (eqb a b) ≡ true) ↔ (a ≢ b)
 differ-true a b = (λ e. eqb-false a b (not-true _ e), λ n. simp (ne-eqb a b n))
 

@@ -151,7 +151,7 @@ pub fn test(number: u32, place: u32, wrong: bool) -> Refusal
 }
 
 // Whether a number is below the least or above the most.
-pub fn outside(v: u32, least: u32, most: u32) -> bool
+fn outside(v: u32, least: u32, most: u32) -> bool
     ensures { λ r. ⌜ r ≡ outside least most v ⌝ }
 {
     v < least || most < v

@@ -2,7 +2,6 @@
 mod checks;
 mod stock;
 
-pub use checks::FINE;
 pub use checks::Faults;
 pub use checks::NO_FAULTS;
 pub use checks::check_chain;

@@ -3,12 +3,12 @@ use mathlib.Core.Path.{_≡_, refl, sym, ap, ap₂, _∙_}
 use mathlib.Core.List.{List, [], _∷_}
 use Prim.Native.Nat.{ℕ, _+_, _*_, _≤_, _<_}
 use native.Mathlib.Omega.{arith}
-use lib.ListN.{length, set, replicate}
+use lib.ListN.{length, set, replicate, take, drop}
 use Rattle.words.specs.Rows.{none, rowAt}
 use Rattle.words.specs.Table.{slots, slots-none, slots-more, slots-end, slot-used}
 use Rattle.words.specs.Words.{wordAt}
 use Rattle.words.specs.declared.Queue.{Queue}
-use Rattle.chain.specs.Refusals.{first, orElse, Silent, number-of, first-fine, first-append, first-last, or-left, or-right}
+use Rattle.chain.specs.Refusals.{first, orElse, Silent, silent-as, first-fine, first-append, first-last, or-left, or-right}
 use Rattle.chain.specs.Record.{rowOf, workOf, emptyChain, answered, answered-refused, answered-fine, same-chain}
 use Rattle.chain.specs.Checks.{countCheck}
 use Rattle.chain.specs.Faults.{noFaults, withRow, settled, settled-is}
@@ -17,8 +17,7 @@ use Rattle.chain.specs.declared.Chain.{Chain}
 use Rattle.chain.specs.declared.ChainAnswer.{ChainAnswer}
 use Rattle.chain.specs.declared.checks.Faults.{Faults}
 use Rattle.chain.proofs.Gather.{Gathered, gather-none, gather-more, gather-end, faults-alike}
-use Rattle.chainfile.specs.File.{countOf, periodOf, queuesAt, nodesAt, chainOf, lengthCheck, offsetTests, offsetCheck, fileOffsets, fileRange, fileOrder, rowsRefusal, readRefusal, readAnswer}
-use Rattle.chainfile.specs.Accepted.{headerRefusal}
+use Rattle.chainfile.specs.File.{countOf, periodOf, queuesAt, nodesAt, chainOf, lengthCheck, offsetTests, offsetCheck, fileOffsets, fileRange, fileOrder, readChecks, headerRefusal, rowsRefusal, readRefusal, readAnswer}
 
 -- check 3 as the header's last, from the words that code has read
 pub offset-last : (f : List ℕ) {r : Refusal} {n q w : ℕ} → r ≡ offsetCheck (length f) n q w → n ≡ countOf f → q ≡ queuesAt f → w ≡ nodesAt f → r ≡ first (fileOffsets f ∷ [])
@@ -28,7 +27,7 @@ offset-last f {r} {n} {q} {w} e a b c = rw (← a, ← b, ← c) (e ∙ sym (fir
 -- the whole list of the reader's checks is the header's, then the rows'
 read-parts : (f : List ℕ) → readRefusal f ≡ orElse (headerRefusal f) (rowsRefusal f)
 unfolding readRefusal headerRefusal rowsRefusal
-read-parts f = first-append (lengthCheck f ∷ countCheck (countOf f) ∷ fileOffsets f ∷ []) (fileRange f ∷ fileOrder f ∷ [])
+read-parts f = first-append (take 3 (readChecks f)) (drop 3 (readChecks f))
 
 -- the reader's two ways out: the header is refused, or the rows answer
 pub header-refused : (f : List ℕ) {h : Refusal} → h ≡ headerRefusal f → (Silent h → ⊥) → record { number = h .number; place = h .place; chain = emptyChain } ≡ readAnswer f
@@ -101,5 +100,5 @@ load-refused {f} l e n = answered-refused (chainOf f) (e ∙ l .refusal-is) n
 pub load-done : {f : List ℕ} {c : Chain} {x : Faults} {r : Refusal} → Rows f c x → r ≡ settled (c .period) x → Silent r → record { number = 0; place = 0; chain = c } ≡ answered (rowsRefusal f) (chainOf f)
 unfolding rowsRefusal
 load-done {f} l e z =
-    let silent = first-fine (fileRange f ∷ fileOrder f ∷ []) (number-of (sym (e ∙ l .refusal-is)) ∙ z) in
+    let silent = first-fine (drop 3 (readChecks f)) (silent-as (e ∙ l .refusal-is) z) in
     ap (λ (c : Chain). record { number = 0; place = 0; chain = c }) (l .record-is) ∙ answered-fine (chainOf f) (sym silent)

@@ -1,36 +1,26 @@
 -- What the reader and the writer accept, both ways.
---   headerRefusal f        1, 2 and 3: what is refused of a file before its rows are looked at
---   Placed f, placed       what they leave to be known: the count, the length, the total word, where the tables stand
+--   Placed f, placed       what 1, 2 and 3 leave to be known: the count, the length, the total word, where the tables stand
 --   Accepted f             what a file that the reader accepts is
 --   read-accepts           the reader accepts exactly such a file
 --   write-accepts          the writer accepts exactly a sound chain that fits
 --   read-fine, write-fine  a call that is silent answers number 0 with place 0
---   touch                  tables that touch do not overlap
 use mathlib.Core.Path.{_≡_, refl, sym, _∙_}
-use mathlib.Core.Bool.{Bool, true, false, _&&_}
+use mathlib.Core.Bool.{Bool, false}
 use mathlib.Core.Logic.{_↔_, Iff·trans}
 use mathlib.Core.List.{List, [], _∷_}
 use Prim.Native.Nat.{ℕ, _+_, _*_, _≤_}
-use native.Mathlib.Nat.{le-refl}
 use native.Mathlib.Omega.{arith}
-use lib.Dec.{ltb}
-use borrow.Author.Tests.{le-ltb}
 use lib.ListN.{length}
 use Rattle.chain.specs.Tests.{In, below-false}
-use Rattle.chain.specs.Refusals.{fine, test, first, Silent, Silents, number-of, first-fine, first-silent, test-silent}
+use Rattle.chain.specs.Refusals.{fine, test, first, Silent, Silents, silent-as, first-fine, first-silent, test-silent}
 use Rattle.chain.specs.Checks.{countCheck, count-silent, recordRange, recordOrder}
 use Rattle.chain.specs.Sound.{Sound, sound-is}
 use Rattle.chain.specs.declared.Refusal.{Refusal}
 use Rattle.chain.specs.declared.Chain.{Chain}
-use Rattle.chainfile.specs.File.{countOf, queuesAt, nodesAt, totalOf, chainOf, lengthCheck, misplaced, overlap, offsetTests, offsetCheck, fileOffsets, fileRange, fileOrder, readChecks, readRefusal, length-silent, GoodTable, good-table}
+use Rattle.chainfile.specs.File.{countOf, queuesAt, nodesAt, totalOf, chainOf, lengthCheck, badTable, offsetTests, offsetCheck, fileOffsets, fileRange, fileOrder, readChecks, headerRefusal, readRefusal, length-silent, GoodTable, good-table, Shared, overlap-false}
 use Rattle.chainfile.specs.Packed.{packedLength, roomCheck, writeChecks, writeRefusal}
 
--- the checks of a file before its rows are looked at
-unfoldable pub headerRefusal : List ℕ → Refusal
-unfolding first offsetCheck
-headerRefusal f = first (lengthCheck f ∷ countCheck (countOf f) ∷ fileOffsets f ∷ [])
-
--- what they leave to be known: the count, the length, the total word and where the tables stand
+-- what 1, 2 and 3 leave to be known: the count, the length, the total word and where the tables stand
 pub record Placed (f : List ℕ) : Type 0 where
   pub count : In 1 16 (countOf f)
   pub long : In 20 4096 (length f)
@@ -43,18 +33,18 @@ unfolding headerRefusal Silents offsetCheck
 placed f e z = record { count = count-silent (countOf f) .0 (h .1 .0); long = length-silent f .0 (h .0) .0; total = length-silent f .0 (h .0) .1; queues = good 8 (queuesAt f) (queuesAt f + 20 * countOf f) (o .0); nodes = good 12 (nodesAt f) (nodesAt f + 4 * countOf f) (o .1 .0) }
   where
     h : Silents (lengthCheck f ∷ countCheck (countOf f) ∷ fileOffsets f ∷ [])
-    h = first-silent (lengthCheck f ∷ countCheck (countOf f) ∷ fileOffsets f ∷ []) .0 (number-of (sym e) ∙ z)
+    h = first-silent (lengthCheck f ∷ countCheck (countOf f) ∷ fileOffsets f ∷ []) .0 (silent-as e z)
 
     o : Silents (offsetTests (length f) (countOf f) (queuesAt f) (nodesAt f))
     o = first-silent (offsetTests (length f) (countOf f) (queuesAt f) (nodesAt f)) .0 (h .1 .1 .0)
 
-    good : (P at end : ℕ) → Silent (test 3 P (misplaced (length f) at end)) → GoodTable (length f) at end
+    good : (P at end : ℕ) → Silent (test 3 P (badTable (length f) at end)) → GoodTable (length f) at end
     good P at end s = good-table (length f) at end .0 (test-silent 3 P (λ e. omega arith) _ .0 s)
 
 -- what a file that the reader accepts is: its tables stand well and apart, and what it says is a sound chain
 pub record Accepted (f : List ℕ) : Type 0 where
   pub places : Placed f
-  pub apart : overlap (queuesAt f) (queuesAt f + 20 * countOf f) (nodesAt f) (nodesAt f + 4 * countOf f) ≡ false
+  pub apart : Shared (queuesAt f) (queuesAt f + 20 * countOf f) (nodesAt f) (nodesAt f + 4 * countOf f) → ⊥
   pub chain : Sound (chainOf f)
 
 pub read-accepts : (f : List ℕ) → Silent (readRefusal f) ↔ Accepted f
@@ -70,13 +60,13 @@ read-accepts f = Iff·trans (first-silent (readChecks f)) (out, back)
     passes : (P : ℕ) (wrong : Bool) → Silent (test 3 P wrong) ↔ (wrong ≡ false)
     passes P wrong = test-silent 3 P (λ e. omega arith) wrong
 
-    good : (P at end : ℕ) → GoodTable (length f) at end → Silent (test 3 P (misplaced (length f) at end))
+    good : (P at end : ℕ) → GoodTable (length f) at end → Silent (test 3 P (badTable (length f) at end))
     good P at end g = passes P _ .1 (good-table (length f) at end .1 g)
 
     out : Silents (readChecks f) → Accepted f
     out h = record {
       places = placed f refl (first-silent (lengthCheck f ∷ countCheck (countOf f) ∷ first offsets ∷ []) .1 (h .0, (h .1 .0, (h .1 .1 .0, tt))));
-      apart = passes 12 _ .0 (first-silent offsets .0 (h .1 .1 .0) .1 .1 .0);
+      apart = overlap-false (countOf f) (queuesAt f) (nodesAt f) .0 (passes 12 _ .0 (first-silent offsets .0 (h .1 .1 .0) .1 .1 .0));
       chain = own .0 (h .1 .0, h .1 .1 .1);
     }
 
@@ -84,7 +74,7 @@ read-accepts f = Iff·trans (first-silent (readChecks f)) (out, back)
     back a =
         let p = a .places in
         let s = own .1 (a .chain) in
-        (length-silent f .1 (p .long, p .total), (s .0, (first-silent offsets .1 (good 8 _ _ (p .queues), (good 12 _ _ (p .nodes), (passes 12 _ .1 (a .apart), tt))), s .1)))
+        (length-silent f .1 (p .long, p .total), (s .0, (first-silent offsets .1 (good 8 _ _ (p .queues), (good 12 _ _ (p .nodes), (passes 12 _ .1 (overlap-false (countOf f) (queuesAt f) (nodesAt f) .1 (a .apart)), tt))), s .1)))
 
 pub write-accepts : (c : Chain) (room : ℕ) → Silent (writeRefusal c room) ↔ (Sound c × (packedLength (c .n) ≤ room))
 unfolding writeRefusal Silents
@@ -110,11 +100,3 @@ read-fine f z = first-fine (readChecks f) z
 pub write-fine : (c : Chain) (room : ℕ) → Silent (writeRefusal c room) → writeRefusal c room ≡ fine
 unfolding writeRefusal
 write-fine c room z = first-fine (writeChecks c room) z
-
--- tables that touch do not overlap
-pub touch : (q e w : ℕ) → overlap q e e w ≡ false
-touch q e w = rw (le-ltb e e (le-refl e)) (never (ltb q w))
-  where
-    never : (b : Bool) → b && false ≡ false
-    never true = refl
-    never false = refl

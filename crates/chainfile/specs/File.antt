@@ -2,34 +2,41 @@
 --   countOf f, periodOf f, queuesAt f, nodesAt f, totalOf f
 --                              the header's five words
 --   chainOf f                  the chain that the words of f say, slots past n zero
---   lengthCheck f              1: the length, or the total word
+--   wrongLength f, lengthCheck f
+--                              1: the length, or the total word
+--   badTable, overlap, offsetTests
+--                              the reasons of 3, and their order
 --   offsetCheck len n q w      3: where the tables stand
 --   fileOffsets f, fileRange f, fileOrder f
 --                              3, 4 and 5 of the file f
---   rowsRefusal f              4, then 5
 --   readChecks f               the reader's checks, in order
+--   headerRefusal f, rowsRefusal f
+--                              what 1 to 3 refuse, and what 4 and 5 do
 --   readRefusal f, readAnswer f
 --                              what the reader refuses f with, and its whole answer
---   BadTable, Shared, Misplaced
---                              01's condition of 3, in words
+--   BadLength, BadTable, GoodTable, Shared, BadTables
+--                              01's conditions of 1 and 3, in words
+--   bad-table, good-table, overlap-true, overlap-false
+--                              the reasons of 3 hold, or fail, exactly under theirs
 --   length-exact, offset-exact each check speaks exactly under its condition
---   length-only, offset-only   and with its own number only
+--   length-silent              and 1 is silent exactly where it does not hold
+--   length-only, offset-only   each speaks with its own number only
 --   read-1 .. read-5           when a file is refused with each number
-use mathlib.Core.Path.{_≡_}
-use mathlib.Core.Bool.{Bool, true, false, _||_, _&&_, not}
+use mathlib.Core.Path.{_≡_, refl, sym, _∙_}
+use mathlib.Core.Bool.{Bool, true, false, _||_, _&&_, not, true≢false}
 use mathlib.Core.Logic.{_↔_, _≢_, _⊎_, Iff·trans, Iff·and, Iff·rfl, true-and}
 use mathlib.Core.List.{List, [], _∷_}
 use Prim.Native.Nat.{ℕ, _+_, _*_, _%_, _≤_, _<_, max}
 use native.Mathlib.Omega.{arith}
 use lib.Dec.{ltb, eqb}
-use lib.ListN.{length, getD, take}
+use lib.ListN.{length, getD, take, drop}
 use Rattle.words.specs.Rows.{none, rowAt}
 use Rattle.words.specs.Table.{slots}
 use Rattle.words.specs.Words.{wordAt}
 use Rattle.chain.specs.Refusals.{fine, Silents, Numbered, exact-at, refused, test, first, Silent, Only, only-test, only-fine, only-or, test-exact, test-silent, or-says, says-last}
 use Rattle.chain.specs.Record.{answered}
-use Rattle.chain.specs.Tests.{under, outside, Out, In, outside-true, outside-false, or-true, or-false, and-true, sum-iff, below-true, below-false, differ-true, differ-false}
-use Rattle.chain.specs.Checks.{countCheck, rangeCheck, orderCheck, fields, FirstOut, FirstOver, count-exact, count-silent, range-exact, order-exact, count-only, range-only, order-only}
+use Rattle.chain.specs.Tests.{outside, Out, In, outside-true, outside-false, or-true, or-false, and-true, sum-iff, below-true, below-false, differ-true, differ-false}
+use Rattle.chain.specs.Checks.{countCheck, rangeCheck, orderCheck, fields, FirstOut, FirstOver, count-exact, range-exact, order-exact, count-only, range-only, order-only}
 use Rattle.chain.specs.declared.Refusal.{Refusal}
 use Rattle.chain.specs.declared.Chain.{Chain}
 use Rattle.chain.specs.declared.ChainAnswer.{ChainAnswer}
@@ -60,12 +67,15 @@ chainOf f = record {
 }
 
 -- 1: "length under 20 or over 4,096, or total word differs from length", place 0
+abbrev pub wrongLength : List ℕ → Bool
+wrongLength f = outside 20 4096 (length f) || not (eqb (totalOf f) (length f))
+
 abbrev pub lengthCheck : List ℕ → Refusal
-lengthCheck f = test 1 0 (outside 20 4096 (length f) || not (eqb (totalOf f) (length f)))
+lengthCheck f = test 1 0 (wrongLength f)
 
 -- "a table offset is no multiple of 4, is below 20, or its table passes the end"
-abbrev pub misplaced : ℕ → ℕ → ℕ → Bool
-misplaced len at end = not (eqb (at % 4) 0) || (ltb at 20 || ltb len end)
+abbrev pub badTable : ℕ → ℕ → ℕ → Bool
+badTable len at end = not (eqb (at % 4) 0) || (ltb at 20 || ltb len end)
 
 -- "or the tables overlap": each begins before the other ends
 abbrev pub overlap : ℕ → ℕ → ℕ → ℕ → Bool
@@ -73,7 +83,7 @@ overlap q qend w wend = ltb q wend && ltb w qend
 
 -- place "8 (queue offset, tested first), 12 (node offset, then overlap)"; the tables stand at q and w
 abbrev pub offsetTests : ℕ → ℕ → ℕ → ℕ → List Refusal
-offsetTests len n q w = test 3 8 (misplaced len q (q + 20 * n)) ∷ test 3 12 (misplaced len w (w + 4 * n)) ∷ test 3 12 (overlap q (q + 20 * n) w (w + 4 * n)) ∷ []
+offsetTests len n q w = test 3 8 (badTable len q (q + 20 * n)) ∷ test 3 12 (badTable len w (w + 4 * n)) ∷ test 3 12 (overlap q (q + 20 * n) w (w + 4 * n)) ∷ []
 
 -- 3: the first of these that speaks
 unfoldable pub offsetCheck : ℕ → ℕ → ℕ → ℕ → Refusal
@@ -90,11 +100,6 @@ fileRange f = rangeCheck (chainOf f) (queuesAt f) (nodesAt f)
 abbrev pub fileOrder : List ℕ → Refusal
 fileOrder f = orderCheck (chainOf f) (queuesAt f)
 
--- 4, then 5: what is refused of the rows of a file
-unfoldable pub rowsRefusal : List ℕ → Refusal
-unfolding first chainOf rangeCheck orderCheck
-rowsRefusal f = first (fileRange f ∷ fileOrder f ∷ [])
-
 -- "the reader checks 1 to 5"
 abbrev pub readChecks : List ℕ → List Refusal
 readChecks f = lengthCheck f ∷ countCheck (countOf f) ∷ fileOffsets f ∷ fileRange f ∷ fileOrder f ∷ []
@@ -102,6 +107,15 @@ readChecks f = lengthCheck f ∷ countCheck (countOf f) ∷ fileOffsets f ∷ fi
 unfoldable pub readRefusal : List ℕ → Refusal
 unfolding first offsetCheck chainOf rangeCheck orderCheck
 readRefusal f = first (readChecks f)
+
+-- the part of it before any row is looked at, 1 to 3, and the rows' part, 4 and 5
+unfoldable pub headerRefusal : List ℕ → Refusal
+unfolding first offsetCheck
+headerRefusal f = first (take 3 (readChecks f))
+
+unfoldable pub rowsRefusal : List ℕ → Refusal
+unfolding first chainOf rangeCheck orderCheck
+rowsRefusal f = first (drop 3 (readChecks f))
 
 -- what the reader answers to any bytes
 unfoldable pub readAnswer : List ℕ → ChainAnswer
@@ -119,7 +133,7 @@ pub length-silent : (f : List ℕ) → Silent (lengthCheck f) ↔ (In 20 4096 (l
 length-silent f = Iff·trans (test-silent 1 0 (λ e. omega arith) _) (or-false (outside-false 20 4096 (length f)) (differ-false (totalOf f) (length f)))
 
 pub length-only : (f : List ℕ) → Only 1 (lengthCheck f)
-length-only f = only-test 1 0 (outside 20 4096 (length f) || not (eqb (totalOf f) (length f)))
+length-only f = only-test 1 0 (wrongLength f)
 
 -- 3 in words: a table that begins at `at` and ends before `end` stands wrong in a file of `len` bytes
 abbrev pub BadTable : ℕ → ℕ → ℕ → Type 0
@@ -135,44 +149,52 @@ pub record Shared (q qend w wend : ℕ) : Type 0 where
   pub in-queues : (q ≤ byte) × (byte < qend)
   pub in-nodes : (w ≤ byte) × (byte < wend)
 
-pub bad-table : (len at end : ℕ) → (misplaced len at end ≡ true) ↔ BadTable len at end
+pub bad-table : (len at end : ℕ) → (badTable len at end ≡ true) ↔ BadTable len at end
 bad-table len at end = or-true (differ-true (at % 4) 0) (or-true (below-true at 20) (below-true len end))
 
-pub good-table : (len at end : ℕ) → (misplaced len at end ≡ false) ↔ GoodTable len at end
+pub good-table : (len at end : ℕ) → (badTable len at end ≡ false) ↔ GoodTable len at end
 good-table len at end = or-false (differ-false (at % 4) 0) (or-false (below-false at 20) (below-false len end))
 
--- two tables, neither of them empty, overlap exactly when some byte lies in both
-pub overlap-true : (q qend w wend : ℕ) → q < qend → w < wend → (overlap q qend w wend ≡ true) ↔ Shared q qend w wend
-overlap-true q qend w wend hq hw = Iff·trans (and-true (below-true q wend) (below-true w qend)) (out, λ s. (omega (arith, s .in-queues, s .in-nodes), omega (arith, s .in-queues, s .in-nodes)))
+-- the tables of n rows overlap exactly when some byte lies in both
+pub overlap-true : (n q w : ℕ) → (overlap q (q + 20 * n) w (w + 4 * n) ≡ true) ↔ Shared q (q + 20 * n) w (w + 4 * n)
+overlap-true n q w = Iff·trans (and-true (below-true q (w + 4 * n)) (below-true w (q + 20 * n))) (out, λ s. (omega (arith, s .in-queues, s .in-nodes), omega (arith, s .in-queues, s .in-nodes)))
   where
-    out : (q < wend) × (w < qend) → Shared q qend w wend
+    out : (q < w + 4 * n) × (w < q + 20 * n) → Shared q (q + 20 * n) w (w + 4 * n)
     out h = record { byte = max q w; in-queues = (omega arith, omega arith); in-nodes = (omega arith, omega arith) }
 
--- the queue offset's reasons at place 8; else the node offset's at place 12; else, at place 12, a byte in both tables
-abbrev pub Misplaced : ℕ → ℕ → ℕ → ℕ → ℕ → Type 0
-Misplaced len n q w L = (BadTable len q (q + 20 * n) × (L ≡ 8)) ⊎ (GoodTable len q (q + 20 * n) × ((BadTable len w (w + 4 * n) × (L ≡ 12)) ⊎ (GoodTable len w (w + 4 * n) × (Shared q (q + 20 * n) w (w + 4 * n) × (L ≡ 12)))))
+-- and are apart exactly when none does
+pub overlap-false : (n q w : ℕ) → (overlap q (q + 20 * n) w (w + 4 * n) ≡ false) ↔ (Shared q (q + 20 * n) w (w + 4 * n) → ⊥)
+overlap-false n q w = (λ e s. true≢false (sym (overlap-true n q w .1 s) ∙ e), λ no. by _ (λ e. no (overlap-true n q w .0 e)))
+  where
+    by : (b : Bool) → (b ≡ true → ⊥) → b ≡ false
+    by true h = absurd (h refl)
+    by false h = refl
 
-pub offset-exact : (L len n q w : ℕ) → 0 < n → (offsetCheck len n q w ≡ refused 3 L) ↔ Misplaced len n q w L
+-- the queue offset's reasons at place 8; else the node offset's at place 12; else, at place 12, a byte in both tables
+abbrev pub BadTables : ℕ → ℕ → ℕ → ℕ → ℕ → Type 0
+BadTables len n q w L = (BadTable len q (q + 20 * n) × (L ≡ 8)) ⊎ (GoodTable len q (q + 20 * n) × ((BadTable len w (w + 4 * n) × (L ≡ 12)) ⊎ (GoodTable len w (w + 4 * n) × (Shared q (q + 20 * n) w (w + 4 * n) × (L ≡ 12)))))
+
+pub offset-exact : (L len n q w : ℕ) → (offsetCheck len n q w ≡ refused 3 L) ↔ BadTables len n q w L
 unfolding offsetCheck first
-offset-exact L len n q w h =
+offset-exact L len n q w =
     Iff·trans (or-says 3 L three _ _) (sum-iff (bad 8 q (q + 20 * n)) (Iff·and (good 8 q (q + 20 * n))
     (Iff·trans (or-says 3 L three _ _) (sum-iff (bad 12 w (w + 4 * n)) (Iff·and (good 12 w (w + 4 * n))
-    (Iff·trans (says-last 3 L three _) (Iff·trans (test-exact 3 L 12 three _) (Iff·and (overlap-true q (q + 20 * n) w (w + 4 * n) (omega arith) (omega arith)) Iff·rfl))))))))
+    (Iff·trans (says-last 3 L three _) (Iff·trans (test-exact 3 L 12 three _) (Iff·and (overlap-true n q w) Iff·rfl))))))))
   where
     three : _≢_ {A = ℕ} 3 0
     three e = omega arith
 
-    bad : (P at end : ℕ) → (test 3 P (misplaced len at end) ≡ refused 3 L) ↔ (BadTable len at end × (L ≡ P))
+    bad : (P at end : ℕ) → (test 3 P (badTable len at end) ≡ refused 3 L) ↔ (BadTable len at end × (L ≡ P))
     bad P at end = Iff·trans (test-exact 3 L P three _) (Iff·and (bad-table len at end) Iff·rfl)
 
-    good : (P at end : ℕ) → Silent (test 3 P (misplaced len at end)) ↔ GoodTable len at end
+    good : (P at end : ℕ) → Silent (test 3 P (badTable len at end)) ↔ GoodTable len at end
     good P at end = Iff·trans (test-silent 3 P three _) (good-table len at end)
 
 pub offset-only : (len n q w : ℕ) → Only 3 (offsetCheck len n q w)
 unfolding offsetCheck first
 offset-only len n q w =
-    only-or _ _ (only-test 3 8 (misplaced len q (q + 20 * n)))
-    (only-or _ _ (only-test 3 12 (misplaced len w (w + 4 * n))) (only-or _ _ (only-test 3 12 (overlap q (q + 20 * n) w (w + 4 * n))) (only-fine 3)))
+    only-or _ _ (only-test 3 8 (badTable len q (q + 20 * n)))
+    (only-or _ _ (only-test 3 12 (badTable len w (w + 4 * n))) (only-or _ _ (only-test 3 12 (overlap q (q + 20 * n) w (w + 4 * n))) (only-fine 3)))
 
 -- a file is refused with a number exactly when no earlier check speaks and the number's own condition holds
 module _ (f : List ℕ) (L : ℕ) where
@@ -190,10 +212,8 @@ module _ (f : List ℕ) (L : ℕ) where
   pub read-2 : (readRefusal f ≡ refused 2 L) ↔ (Silents (lengthCheck f ∷ []) × (Out 1 16 (countOf f) × (L ≡ 0)))
   read-2 = Iff·trans (read-at 1 (omega arith)) (Iff·and Iff·rfl (count-exact L (countOf f)))
 
-  pub read-3 : (readRefusal f ≡ refused 3 L) ↔ (Silents (lengthCheck f ∷ countCheck (countOf f) ∷ []) × Misplaced (length f) (countOf f) (queuesAt f) (nodesAt f) L)
-  unfolding Silents
-  read-3 = Iff·trans (read-at 2 (omega arith))
-      (under (λ s. offset-exact L (length f) (countOf f) (queuesAt f) (nodesAt f) (count-silent (countOf f) .0 (s .1 .0) .0)))
+  pub read-3 : (readRefusal f ≡ refused 3 L) ↔ (Silents (lengthCheck f ∷ countCheck (countOf f) ∷ []) × BadTables (length f) (countOf f) (queuesAt f) (nodesAt f) L)
+  read-3 = Iff·trans (read-at 2 (omega arith)) (Iff·and Iff·rfl (offset-exact L (length f) (countOf f) (queuesAt f) (nodesAt f)))
 
   pub read-4 : (readRefusal f ≡ refused 4 L) ↔ (Silents (lengthCheck f ∷ countCheck (countOf f) ∷ fileOffsets f ∷ []) × FirstOut (fields (chainOf f) (queuesAt f) (nodesAt f)) L)
   read-4 = Iff·trans (read-at 3 (omega arith)) (Iff·and Iff·rfl (range-exact L (chainOf f) (queuesAt f) (nodesAt f)))

@@ -28,7 +28,7 @@ use Rattle.words.specs.Rows.{row}
 use Rattle.chain.specs.Tests.{Out, below-true}
 use Rattle.chain.specs.Refusals.{Silents, Numbered, exact-at, refused, fine, test, first, Only, only-test, test-exact}
 use Rattle.chain.specs.Record.{rowOf, workOf}
-use Rattle.chain.specs.Checks.{countCheck, rangeCheck, orderCheck, recordRange, recordOrder, fields, FirstOut, FirstOver, count-exact, range-exact, order-exact, count-only, range-only, order-only}
+use Rattle.chain.specs.Checks.{countCheck, chainChecks, rangeCheck, orderCheck, recordRange, recordOrder, fields, FirstOut, FirstOver, count-exact, range-exact, order-exact, count-only, range-only, order-only}
 use Rattle.chain.specs.declared.Refusal.{Refusal}
 use Rattle.chain.specs.declared.Chain.{Chain}
 use Rattle.chainfile.specs.declared.LengthAnswer.{LengthAnswer}
@@ -63,7 +63,7 @@ roomCheck need room = test 10 need (ltb room need)
 
 -- "the writer checks 2, 4, 5, 10"
 abbrev pub writeChecks : Chain → ℕ → List Refusal
-writeChecks c room = countCheck (c .n) ∷ recordRange c ∷ recordOrder c ∷ roomCheck (packedLength (c .n)) room ∷ []
+writeChecks c room = chainChecks c ++ (roomCheck (packedLength (c .n)) room ∷ [])
 
 unfoldable pub writeRefusal : Chain → ℕ → Refusal
 unfolding first rangeCheck orderCheck

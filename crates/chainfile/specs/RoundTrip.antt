@@ -1,7 +1,7 @@
 -- What is read and written agrees (demand 2: "Reading a written chain file gives the chain back; writing a chain that was read gives the packed file").
 --   packedFile f                       the packed file of what f says: a header, then f's own tables
 --   read-of-write                      what the writer leaves is read as the chain, its slots past n zero
---   trimmed-read, trimmed-factory      a chain that the reader or the factory gives has its slots past n zero
+--   trimmed-read                       a chain that the reader gives has its slots past n zero
 --   read-writable, packed-read, write-of-read
 --                                      the chain of an accepted file is written, and the bytes are packedFile
 --   packed-again                       which is the file itself where that was packed
@@ -23,8 +23,9 @@ use Rattle.chain.specs.Record.{rowOf, workOf, emptyChain, trimmed, answered, an
 use Rattle.chain.specs.Sound.{SoundRow, Sound}
 use Rattle.chain.specs.Factory.{factoryChains, factoryRefusal, factoryAnswer}
 use Rattle.chain.specs.declared.Chain.{Chain}
+use Rattle.chain.specs.declared.ChainAnswer.{ChainAnswer}
 use Rattle.chainfile.specs.File.{countOf, periodOf, queuesAt, nodesAt, totalOf, chainOf, readChecks, readRefusal, readAnswer}
-use Rattle.chainfile.specs.Accepted.{Placed, Accepted, read-accepts, write-accepts, read-fine, write-fine, touch}
+use Rattle.chainfile.specs.Accepted.{Placed, Accepted, read-accepts, write-accepts, read-fine, write-fine}
 use Rattle.chainfile.specs.Packed.{packedLength, header, rows, nodes, words, packed, writeRefusal, Output, output-fine, rows-length, packed-length, packed-parts}
 use Rattle.chainfile.specs.declared.LengthAnswer.{LengthAnswer}
 
@@ -99,7 +100,7 @@ module _ (c : Chain) (s : Sound c) where
       queues = rw (queues-at, count-is) (refl, (omega arith, omega (arith, packed-length c)));
       nodes = rw (nodes-at, count-is) (omega arith, (omega arith, omega (arith, packed-length c)));
     };
-    apart = rw (queues-at, nodes-at, count-is) (touch 20 (20 + 20 * c .n) (20 + 20 * c .n + 4 * c .n));
+    apart = rw (queues-at, nodes-at, count-is) (λ s. omega (arith, s .in-queues, s .in-nodes));
     chain = rw chain-is trimmed-sound;
   }
 
@@ -120,16 +121,6 @@ pub trimmed-read : (f : List ℕ) → trimmed (readAnswer f .chain) ≡ readAnsw
 unfolding readAnswer chainOf trimmed
 trimmed-read f = trimmed-answer (readRefusal f) (chainOf f)
     (same-chain refl refl (slots-again (λ i. rowAt f (queuesAt f + 20 * i)) none 16 (countOf f)) (slots-again (λ i. wordAt f (nodesAt f + 4 * i)) 0 16 (countOf f)))
-
-pub trimmed-factory : (k : ℕ) → trimmed (factoryAnswer k .chain) ≡ factoryAnswer k .chain
-unfolding factoryAnswer trimmed
-trimmed-factory k = trimmed-answer (factoryRefusal k) (getD factoryChains k emptyChain) (by k)
-  where
-    by : (k : ℕ) → trimmed (getD factoryChains k emptyChain) ≡ getD factoryChains k emptyChain
-    by zero = refl
-    by (suc zero) = refl
-    by (suc (suc zero)) = refl
-    by (suc (suc (suc k))) = refl
 
 -- the packed file of what f says: n, y, 20, 20+20n, 20+24n, then the 20n bytes of its queue table, then the 4n of its node table
 unfoldable pub packedFile : List ℕ → List ℕ
@@ -163,11 +154,14 @@ packed-read f b z =
         ap (λ (w : ℕ). bytesOf (w ∷ [])) (slot-used _ 0 16 (countOf f) i 0 (omega (arith, p .count .1)) h)
         ∙ word-back f (nodesAt f + 4 * i) b (omega (arith, p .nodes .1 .1))
 
--- an accepted file's chain is written into lent bytes o with room for it, which become p: packedFile, then the rest of o
-pub write-of-read : (f o p : List ℕ) (a : LengthAnswer) → Bytes f → Silent (readRefusal f) → packedLength (countOf f) ≤ length o → Output (writeRefusal (chainOf f) (length o)) (packed (chainOf f)) o p a
+-- the chain that a file was read as is written into lent bytes o with room for it, which become p: packedFile, then the rest of o
+pub write-of-read : (f o p : List ℕ) (r : ChainAnswer) (a : LengthAnswer) → Bytes f → r ≡ readAnswer f → r .number ≡ 0 → packedLength (countOf f) ≤ length o → Output (writeRefusal (r .chain) (length o)) (packed (r .chain)) o p a
     → (a ≡ record { number = 0; place = 0; length = packedLength (countOf f) }) × (p ≡ packedFile f ++ drop (packedLength (countOf f)) o)
-unfolding chainOf
-write-of-read f o p a b z l w =
+unfolding chainOf readAnswer
+write-of-read f o p r a b is n l t =
+    let z : Silent (readRefusal f) = sym (ap (λ (x : ChainAnswer). x .number) is) ∙ n in
+    let same : r .chain ≡ chainOf f = ap (λ (x : ChainAnswer). x .chain) (is ∙ sym (answered-fine (chainOf f) (sym (read-fine f z)))) in
+    let w : Output (writeRefusal (chainOf f) (length o)) (packed (chainOf f)) o p a = rw same at t in
     let h = output-fine (write-fine (chainOf f) (length o) (read-writable f (length o) z l)) w in
     let e : length (packed (chainOf f)) ≡ packedLength (countOf f) = packed-length (chainOf f) in
     (h .0 ∙ ap (λ (n : ℕ). record { number = 0; place = 0; length = n }) e, h .1 ∙ ap₂ (λ (t : List ℕ) (n : ℕ). t ++ drop n o) (packed-read f b z) e)

@@ -1,13 +1,9 @@
 // The chain file's reader: checks 1 to 5 in order, on the caller's own bytes. Each word goes once from its place in the
 // file into its slot of the record, and is checked on the way.
 ghost use mathlib.Core.Path.{_≡_};
-ghost use mathlib.Core.Bool.{_||_, _&&_, not};
-ghost use lib.Dec.{eqb};
-ghost use lib.ListN.{length};
-ghost use Rattle.chain.specs.Tests.{outside};
 ghost use Rattle.chain.specs.Record.{answered};
-ghost use Rattle.chainfile.specs.File.{totalOf, misplaced, overlap, offsetCheck, rowsRefusal, chainOf, readAnswer};
-ghost use Rattle.chainfile.specs.Accepted.{headerRefusal, Placed};
+ghost use Rattle.chainfile.specs.File.{wrongLength, badTable, overlap, offsetCheck, headerRefusal, rowsRefusal, chainOf, readAnswer};
+ghost use Rattle.chainfile.specs.Accepted.{Placed};
 use chain::ChainAnswer;
 use chain::Refusal;
 
@@ -46,7 +42,7 @@ fn header_check(file: &[u8]) -> Refusal
 
 // Whether the length is out of range, or is not what the total word says.
 fn is_wrong_length(file: &[u8]) -> bool
-    ensures { λ r. ⌜ r ≡ outside 20 4096 (length (now (file .entry))) || not (eqb (totalOf (now (file .entry))) (length (now (file .entry)))) ⌝ }
+    ensures { λ r. ⌜ r ≡ wrongLength (now (file .entry)) ⌝ }
 {
     let n = file.len();
     if n < 20 {
@@ -64,11 +60,11 @@ fn offset_check(length: usize, n: u32, q: u32, w: u32) -> Refusal
 {
     let qend = (q as usize) + 20 * (n as usize);
     let wend = (w as usize) + 4 * (n as usize);
-    let queues = chain::test(3, 8, is_misplaced(length, q, qend));
+    let queues = chain::test(3, 8, is_bad_table(length, q, qend));
     if queues.number != 0 {
         return queues;
     }
-    let nodes = chain::test(3, 12, is_misplaced(length, w, wend));
+    let nodes = chain::test(3, 12, is_bad_table(length, w, wend));
     if nodes.number != 0 {
         return nodes;
     }
@@ -76,8 +72,8 @@ fn offset_check(length: usize, n: u32, q: u32, w: u32) -> Refusal
 }
 
 // Whether a table from `at` to `end` is out of step, inside the header or past the end.
-fn is_misplaced(length: usize, at: u32, end: usize) -> bool
-    ensures { λ r. ⌜ r ≡ misplaced length at end ⌝ }
+fn is_bad_table(length: usize, at: u32, end: usize) -> bool
+    ensures { λ r. ⌜ r ≡ badTable length at end ⌝ }
 {
     if at % 4 != 0 {
         return true;

@@ -23,7 +23,7 @@ pub record Puts (l : List ℕ) (i : ℕ) (t m : List ℕ) (r : ℕ) : Type 0 whe
   pub next : r ≡ i + length t
   pub holds : m ≡ sets l i t
 
-pub put-put : (l : List ℕ) (i : ℕ) (s t : List ℕ) → sets l i (s ++ t) ≡ sets (sets l i s) (i + length s) t
+put-put : (l : List ℕ) (i : ℕ) (s t : List ℕ) → sets l i (s ++ t) ≡ sets (sets l i s) (i + length s) t
 put-put l i [] t = ap (λ (k : ℕ). sets l k t) (sym (add-zero i))
 put-put l i (a ∷ s) t =
     put-put (set l i a) (suc i) s t ∙ ap (λ (k : ℕ). sets (sets (set l i a) (suc i) s) k t) (suc-add i (length s) ∙ sym (add-suc i (length s)))

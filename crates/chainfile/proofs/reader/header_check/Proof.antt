@@ -3,7 +3,7 @@ use borrow.Author.Needs.{needs}
 use mathlib.Core.Path.{_∙_, ap}
 use Rattle.chain.specs.Refusals.{test, first, or-left, or-right}
 use Rattle.chain.specs.Checks.{countCheck}
-use Rattle.chainfile.specs.Accepted.{headerRefusal}
+use Rattle.chainfile.specs.File.{headerRefusal}
 use Rattle.chainfile.proofs.Reading.{offset-last}
 use Rattle.chainfile.proofs.reader.header_check.Statement.{statement}
 use Rattle.chainfile.proofs.reader.header_check.Tie as tie

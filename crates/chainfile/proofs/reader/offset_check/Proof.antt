@@ -21,25 +21,25 @@ mul-wend c = search needs
 add-wend : tie.Need-add-wend
 add-wend c = search needs
 
-is-misplaced-requires : tie.Need-is-misplaced-requires
-is-misplaced-requires c κs = search needs
+is-bad-table-requires : tie.Need-is-bad-table-requires
+is-bad-table-requires c κs = search needs
 
 test-requires : tie.Need-test-requires
 test-requires c κs = search needs
 
 returns : tie.Need-returns
 unfolding offsetCheck first
-returns c = or-left _ (c .before .before .test .ensures ∙ ap (test 3 8) (c .before .before .before .is-misplaced .ensures)) (c .if1 .taken)
+returns c = or-left _ (c .before .before .test .ensures ∙ ap (test 3 8) (c .before .before .before .is-bad-table .ensures)) (c .if1 .taken)
 
-is-misplaced-requires-2 : tie.Need-is-misplaced-requires-2
-is-misplaced-requires-2 c κs = search needs
+is-bad-table-requires-2 : tie.Need-is-bad-table-requires-2
+is-bad-table-requires-2 c κs = search needs
 
 test-requires-2 : tie.Need-test-requires-2
 test-requires-2 c κs = search needs
 
 returns-2 : tie.Need-returns-2
 unfolding offsetCheck first
-returns-2 c = or-right (c .before .before .before .before .before .before .test .ensures ∙ ap (test 3 8) (c .before .before .before .before .before .before .before .is-misplaced .ensures)) (c .before .before .before .before .if1 .left) (or-left _ (c .before .before .test2 .ensures ∙ ap (test 3 12) (c .before .before .before .is-misplaced2 .ensures)) (c .if2 .taken))
+returns-2 c = or-right (c .before .before .before .before .before .before .test .ensures ∙ ap (test 3 8) (c .before .before .before .before .before .before .before .is-bad-table .ensures)) (c .before .before .before .before .if1 .left) (or-left _ (c .before .before .test2 .ensures ∙ ap (test 3 12) (c .before .before .before .is-bad-table2 .ensures)) (c .if2 .taken))
 
 do-overlap-requires : tie.Need-do-overlap-requires
 do-overlap-requires c κs = search needs
@@ -49,7 +49,7 @@ test-requires-3 c κs = search needs
 
 returns-3 : tie.Need-returns-3
 unfolding offsetCheck first
-returns-3 c = or-right (c .before .before .before .before .before .before .before .before .test .ensures ∙ ap (test 3 8) (c .before .before .before .before .before .before .before .before .before .is-misplaced .ensures)) (c .before .before .before .before .before .before .if1 .left) (or-right (c .before .before .before .before .test2 .ensures ∙ ap (test 3 12) (c .before .before .before .before .before .is-misplaced2 .ensures)) (c .before .before .if2 .left) (c .test3 .ensures ∙ test-alone 3 12 (λ e. omega arith) (c .before .do-overlap .result) ∙ ap (λ (b : Bool). first (test 3 12 b ∷ [])) (c .before .do-overlap .ensures)))
+returns-3 c = or-right (c .before .before .before .before .before .before .before .before .test .ensures ∙ ap (test 3 8) (c .before .before .before .before .before .before .before .before .before .is-bad-table .ensures)) (c .before .before .before .before .before .before .if1 .left) (or-right (c .before .before .before .before .test2 .ensures ∙ ap (test 3 12) (c .before .before .before .before .before .is-bad-table2 .ensures)) (c .before .before .if2 .left) (c .test3 .ensures ∙ test-alone 3 12 (λ e. omega arith) (c .before .do-overlap .result) ∙ ap (λ (b : Bool). first (test 3 12 b ∷ [])) (c .before .do-overlap .ensures)))
 
 pub offset-check-spec : {M : Type 1} → statement M
 offset-check-spec =
@@ -59,10 +59,10 @@ offset-check-spec =
     add-qend
     mul-wend
     add-wend
-    is-misplaced-requires
+    is-bad-table-requires
     test-requires
     returns
-    is-misplaced-requires-2
+    is-bad-table-requires-2
     test-requires-2
     returns-2
     do-overlap-requires
