@@ -8,8 +8,11 @@
  * refusal and its place, all its other results are zero, and it writes nothing. Checks run in the order of
  * their numbers and the first that fails is given. A call that is not refused gives number 0 and place 0.
  *
- * A length of 0 may come with any pointer; else the pointer must lead to that many bytes. A file and an out
- * that are handed in must not overlap. Library and header are one release: use them together.
+ * A length of 0 may come with any pointer; else the pointer must lead to that many bytes, which the call may
+ * read (a file) or write (an out). A file and an out that are handed to one call must not overlap. No call
+ * allocates memory or keeps anything between calls; calls on different memory may run at the same time.
+ *
+ * Library and header are one release: use them together. The library is x86-64 code.
  */
 #ifndef ARDENQUILL_H
 #define ARDENQUILL_H
@@ -56,7 +59,8 @@ struct ardenquill_queue {
     /* Tokens that a firing of the producer puts in; tokens that the consumer waits for; tokens that a firing of
      * the consumer takes out. Each 1 to 65,535, consume not above threshold. */
     uint32_t produce, threshold, consume;
-    /* The most tokens that the queue has room for, 0 to 1,000,000; 0 stands for the smallest that is enough. */
+    /* The most tokens that the queue has room for, 0 to 1,000,000; 0 stands for the queue's minimum: the largest
+     * multiple of gcd(produce, consume) below threshold, plus produce. */
     uint32_t capacity;
     /* Always 0. */
     uint32_t reserved;
@@ -89,8 +93,8 @@ struct ardenquill_length_answer {
     uint64_t length;
 };
 
-/* Gives the chain of a chain file. The tables may lie anywhere in the file; bytes in neither header nor table
- * are ignored. Refuses with 1, 2, 3, 4, 5, in this order; the places of 4 and 5 are offsets in the file handed
+/* Gives the chain of a chain file. The tables may lie anywhere in the file; what lies outside header and tables
+ * is not looked at. Refuses with 1, 2, 3, 4, 5, in this order; the places of 4 and 5 are offsets in the file handed
  * in. Writes nothing. */
 struct ardenquill_chain_answer ardenquill_read(const uint8_t *file, size_t file_length);
 

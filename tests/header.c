@@ -28,15 +28,10 @@
     OFFSET(ardenquill_length_answer, place, 4)   \
     OFFSET(ardenquill_length_answer, length, 8)
 
-/* The same twice: once for the compiler, which refuses an array of -1 elements, and once to be run. */
-#define SIZE_ASSERTED(type, bytes) typedef char size_of_##type[sizeof(struct type) == (bytes) ? 1 : -1];
-#define OFFSET_ASSERTED(type, field, bytes) \
-    typedef char offset_of_##type##_##field[offsetof(struct type, field) == (bytes) ? 1 : -1];
+/* Each as a check that is counted. */
 #define SIZE_CHECKED(type, bytes) check(sizeof(struct type) == (bytes), "size of %s is %d", #type, bytes);
 #define OFFSET_CHECKED(type, field, bytes) \
     check(offsetof(struct type, field) == (bytes), "offset of %s.%s is %d", #type, #field, bytes);
-
-LAYOUT(SIZE_ASSERTED, OFFSET_ASSERTED)
 
 /* Room for the longest packed file and for bytes behind it that must stay as they were. */
 #define ROOM (ARDENQUILL_PACKED_LENGTH(ARDENQUILL_MAX_QUEUES) + 16)

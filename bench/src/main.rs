@@ -7,6 +7,7 @@ use compare::chains::valid;
 use compare::packed::packed_file;
 use compare::random::Random;
 use library::{ardenquill_read, ardenquill_write};
+use std::fmt::Debug;
 use std::hint::black_box;
 use std::slice;
 use std::time::Instant;
@@ -72,19 +73,22 @@ fn refused_first(mut files: Vec<Vec<u8>>) -> Vec<Vec<u8>> {
     files
 }
 
+/// The answer that library and yardstick both give.
+fn same<T: PartialEq + Debug>(library: T, yardstick: T) -> T {
+    assert_eq!(library, yardstick, "library and yardstick differ");
+    library
+}
+
+/// Sees to it that a call is answered with the number whose time is wanted.
+fn due(answered: u32, number: u32) {
+    assert_eq!(answered, number, "not the answer that is to be measured");
+}
+
 /// Prints the line of reading some files, each of which must be answered with a number.
 fn read_line(name: &str, files: &[Vec<u8>], number: u32) {
     for file in files {
-        let answer = library::read(file);
-        assert_eq!(
-            answer,
-            yardstick::read(file),
-            "library and yardstick differ"
-        );
-        assert_eq!(
-            answer.number, number,
-            "not the answer that is to be measured"
-        );
+        let answer = same(library::read(file), yardstick::read(file));
+        due(answer.number, number);
     }
     let calls = [ardenquill_read as Read, yardstick_read];
     line("read", name, |side| {
@@ -102,16 +106,11 @@ fn read_line(name: &str, files: &[Vec<u8>], number: u32) {
 fn write_line(name: &str, chains: &[Chain], lacking: usize, number: u32) {
     let mut out = vec![0; packed_length(chains[0].n as usize) - lacking];
     for chain in chains {
-        let answer = library::write(chain, &mut out);
-        assert_eq!(
-            answer,
+        let answer = same(
+            library::write(chain, &mut out),
             yardstick::write(chain, &mut out),
-            "library and yardstick differ"
         );
-        assert_eq!(
-            answer.number, number,
-            "not the answer that is to be measured"
-        );
+        due(answer.number, number);
     }
     let calls = [ardenquill_write as Write, yardstick_write];
     line("write", name, |side| {

@@ -21,7 +21,7 @@
 --   count-, range-, order-only each check speaks with its own number only
 --   record-2, record-4, record-5
 --                              when a record is refused with each number
-use mathlib.Core.Path.{_≡_, refl, sym, ap, _∙_}
+use mathlib.Core.Path.{_≡_, refl, sym, _∙_}
 use mathlib.Core.Bool.{true}
 use mathlib.Core.Logic.{_↔_, Iff·trans, Iff·and, Iff·rfl, true-and}
 use mathlib.Core.List.{List, [], _∷_, _++_, map}

@@ -3,7 +3,8 @@
 --   emptyChain               the chain of a refused call: all zero
 --   trimmed c                the chain c with its slots past n zero
 --   answered r c             the answer of a call that makes a chain: the refusal r, or c where r is silent
---   answered-refused, -fine  its two cases, as code has them
+--   refused-alike            a refused answer does not depend on the chain made
+--   answered-fine            an answer that is not refused
 --   same-chain               chains of equal parts are equal
 --   trimmed-answer           the chain of an answer has its slots past n zero where the chain made has
 use mathlib.Core.Path.{_≡_, refl}
@@ -41,9 +42,10 @@ trimmed c = record { n = c .n; period = c .period; queues = slots (rowOf c) none
 unfoldable pub answered : Refusal → Chain → ChainAnswer
 answered r c = record { number = r .number; place = r .place; chain = cond (eqb (r .number) 0) c emptyChain }
 
-pub answered-refused : {r s : Refusal} (c : Chain) → r ≡ s → (Silent r → ⊥) → record { number = r .number; place = r .place; chain = emptyChain } ≡ answered s c
+-- a refused answer does not depend on the chain that was made
+pub refused-alike : (r : Refusal) (c d : Chain) → (Silent r → ⊥) → answered r c ≡ answered r d
 unfolding answered
-answered-refused c e h = rw (← e) (simp (ne-eqb _ _ h))
+refused-alike r c d h = simp (ne-eqb _ _ h)
 
 pub answered-fine : {s : Refusal} (c : Chain) → fine ≡ s → record { number = 0; place = 0; chain = c } ≡ answered s c
 unfolding answered

@@ -1,19 +1,26 @@
 -- Refusals, and the order in which checks speak (01, Numbers a call may refuse with).
---   refused N L        refusal number N with place L
---   fine               not refused: number 0, place 0
---   test N L wrong     the check that says N at L where `wrong` holds, and nothing elsewhere
---   orElse r s         what r says, or what s says where r is silent
---   first rs           what the first check of the list that speaks says; fine where all are silent
---   Silent r, Silents rs
---                      a check, and each check of a list, says nothing
---   Only N r           a check speaks with no number but N
---   Numbered Ns rs     each check of the list speaks with no number but its own
---   First rs N L       the first check of the list that speaks says N at L
---   or-left, or-right  the two cases of orElse
---   first-fine         a silent list says fine
---   first-append       a list, then the next one
---   first-is           first rs is refused N L exactly when First rs N L
---   exact-at           a list says the number of its check k at L exactly when the checks before it are silent and it says so
+--   refused N L              refusal number N with place L
+--   fine                     not refused: number 0, place 0
+--   test N L wrong           the check that says N at L where `wrong` holds, and nothing elsewhere
+--   orElse r s               what r says, or what s says where r is silent
+--   first rs                 what the first check of the list that speaks says; fine where all are silent
+--   Silent r, Silents rs     a check, and each check of a list, says nothing
+--   First rs N L             the first check of the list that speaks says N at L
+--   Lowest g n N L           the first of g 0, .. g (n - 1) that speaks says N at L
+--   Only N r, Numbered Ns rs a check speaks with no number but N; each check of a list with none but its own
+--   absent, distinct         a number stands in no list; no number of a list is 0 or stands twice
+--   number-of, silent-as     equal refusals have equal numbers, and are silent together
+--   or-left, -right, -both   the cases of orElse, as code has them
+--   or-silents, or-says      what orElse says, from what its two checks say
+--   first-fine, first-silent a list is silent exactly where each check is, and then says fine
+--   first-append, -last, -flat, map-tab
+--                            the checks of lists in a row, and of a table
+--   first-is, lowest-is      a list says N at L exactly when First, and a table exactly when Lowest
+--   all-silent               a table is silent exactly when each of its checks is
+--   says-last, test-alone    a check that stands alone or last
+--   test-exact, test-silent  a test speaks exactly where it fails, and is silent exactly where it passes
+--   only-..                  what keeps to one number
+--   exact-at                 a list says the number of its check k at L exactly when the checks before it are silent and it says so
 use mathlib.Core.Path.{_≡_, refl, sym, ap, ap₂, _∙_}
 use mathlib.Core.Bool.{Bool, true, false, cond, not, _&&_, true≢false}
 use mathlib.Core.Logic.{_↔_, _≢_, _⊎_, inl, inr, ⊎-elim, Iff·trans, Iff·and, Iff·rfl, by-cases}

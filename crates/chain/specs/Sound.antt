@@ -4,7 +4,7 @@
 --   SoundRow q, Sound c             a row, and a chain, in range and in order
 --   sound-is                        2, 4 and 5 are silent, the tables standing anywhere, exactly when the chain is sound
 --   sound, sound-known              a record is not refused exactly when it is sound
-use mathlib.Core.Path.{_≡_, sym, ap, ap₂, _∙_}
+use mathlib.Core.Path.{_≡_, ap, ap₂, _∙_}
 use mathlib.Core.Logic.{_↔_, Iff·trans, Iff·and}
 use mathlib.Core.List.{List, [], _∷_, map, map-append}
 use Prim.Native.Nat.{ℕ, _+_, _*_, _≤_, _<_}

@@ -2,12 +2,24 @@
 --   outside least most v     v is below the least or above the most
 --   Out, In                  the two facts: out of the range, in it
 --   X-true, X-false          the test X holds, or fails, exactly under the fact named beside it
+--   sum-iff                  facts that hold exactly under others, of which one holds
 use mathlib.Core.Path.{_≡_, refl, sym}
 use mathlib.Core.Bool.{Bool, true, false, _||_, _&&_, not, true≢false}
 use mathlib.Core.Logic.{_↔_, _≢_, _⊎_, inl, inr, ⊎-elim}
 use Prim.Native.Nat.{ℕ, _≤_, _<_}
 use lib.Dec.{ltb, eqb}
 use borrow.Author.Tests.{lt-ltb, le-ltb, ltb-true, ltb-false, eq-eqb, ne-eqb, eqb-true, eqb-false, not-true, not-false}
+
+-- v is below the least or above the most
+abbrev pub outside : ℕ → ℕ → ℕ → Bool
+outside least most v = ltb v least || ltb most v
+
+-- a number is out of its range, or in it
+abbrev pub Out : ℕ → ℕ → ℕ → Type 0
+Out least most v = (v < least) ⊎ (most < v)
+
+abbrev pub In : ℕ → ℕ → ℕ → Type 0
+In least most v = (least ≤ v) × (v ≤ most)
 
 -- either of two tests holds exactly when one of their facts does, and neither exactly when none does
 pub or-true : {A B : Type 0} {a b : Bool} → (a ≡ true) ↔ A → (b ≡ true) ↔ B → (a || b ≡ true) ↔ (A ⊎ B)
@@ -18,7 +30,7 @@ pub or-false : {A B : Type 0} {a b : Bool} → (a ≡ false) ↔ A → (b ≡ fa
 or-false {a = true} h k = (λ e. absurd (true≢false e), λ s. absurd (true≢false (h .1 (s .0))))
 or-false {a = false} h k = (λ e. (h .0 refl, k .0 e), λ s. k .1 (s .1))
 
--- two facts that hold exactly under two others, of which one or both hold
+-- one of two facts holds exactly when one of two others does
 pub sum-iff : {A B C D : Type 0} → A ↔ C → B ↔ D → (A ⊎ B) ↔ (C ⊎ D)
 sum-iff h k = (⊎-elim (λ a. inl (h .0 a)) (λ b. inr (k .0 b)), ⊎-elim (λ c. inl (h .1 c)) (λ d. inr (k .1 d)))
 
@@ -37,17 +49,6 @@ below-false a b = (λ e. ltb-false a b e, λ l. le-ltb a b l)
 pub and-true : {A B : Type 0} {a b : Bool} → (a ≡ true) ↔ A → (b ≡ true) ↔ B → (a && b ≡ true) ↔ (A × B)
 and-true {a = true} h k = (λ e. (h .0 refl, k .0 e), λ s. k .1 (s .1))
 and-true {a = false} h k = (λ e. absurd (true≢false (sym e)), λ s. absurd (true≢false (sym (h .1 (s .0)))))
-
--- v is below the least or above the most
-abbrev pub outside : ℕ → ℕ → ℕ → Bool
-outside least most v = ltb v least || ltb most v
-
--- a number is out of its range, or in it
-abbrev pub Out : ℕ → ℕ → ℕ → Type 0
-Out least most v = (v < least) ⊎ (most < v)
-
-abbrev pub In : ℕ → ℕ → ℕ → Type 0
-In least most v = (least ≤ v) × (v ≤ most)
 
 pub outside-true : (least most v : ℕ) → (outside least most v ≡ true) ↔ Out least most v
 outside-true least most v = or-true (below-true v least) (below-true most v)

@@ -12,6 +12,7 @@ use crate::Chain;
 use crate::Refusal;
 use words::Queue;
 
+// Not refused.
 pub const FINE: Refusal = Refusal {
     number: 0,
     place: 0,
@@ -24,6 +25,7 @@ pub struct Faults {
     pub order: Refusal,
 }
 
+// No row looked at yet.
 pub const NO_FAULTS: Faults = Faults {
     rows: FINE,
     nodes: FINE,
@@ -71,6 +73,20 @@ pub fn with_row(faults: Faults, row: Queue, at: u32, e: u32, to: u32) -> Faults
         rows: or_else(rows, row_range(row, at)),
         nodes: or_else(nodes, field_check(to, 1, 1000000, e)),
         order: or_else(order, test(5, at + 8, row.threshold < row.consume)),
+    }
+}
+
+// The refusal of a test that fails, or none.
+pub fn test(number: u32, place: u32, wrong: bool) -> Refusal
+    ensures { λ r. ⌜ r ≡ test number place wrong ⌝ }
+{
+    if wrong {
+        Refusal {
+            number: number,
+            place: place,
+        }
+    } else {
+        FINE
     }
 }
 
@@ -134,20 +150,6 @@ fn or_else(a: Refusal, b: Refusal) -> Refusal
         return a;
     }
     b
-}
-
-// The refusal of a test that fails, or none.
-pub fn test(number: u32, place: u32, wrong: bool) -> Refusal
-    ensures { λ r. ⌜ r ≡ test number place wrong ⌝ }
-{
-    if wrong {
-        Refusal {
-            number: number,
-            place: place,
-        }
-    } else {
-        FINE
-    }
 }
 
 // Whether a number is below the least or above the most.

@@ -1,4 +1,7 @@
 // The chain record: the refusal, the checks 2, 4 and 5 of a chain's own numbers, and the factory chains.
+ghost use mathlib.Core.Path.{_≡_};
+ghost use Rattle.chain.specs.Record.{answered};
+
 mod checks;
 mod stock;
 
@@ -43,3 +46,21 @@ pub const EMPTY: Chain = Chain {
     queues: [words::NONE; 16],
     work: [0; 16],
 };
+
+// The answer of a call that makes a chain: the chain, or none where it is refused.
+pub fn answer(refusal: Refusal, chain: Chain) -> ChainAnswer
+    ensures { λ r. ⌜ r ≡ answered refusal chain ⌝ }
+{
+    if refusal.number != 0 {
+        return ChainAnswer {
+            number: refusal.number,
+            place: refusal.place,
+            chain: EMPTY,
+        };
+    }
+    ChainAnswer {
+        number: refusal.number,
+        place: refusal.place,
+        chain: chain,
+    }
+}

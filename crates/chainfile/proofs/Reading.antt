@@ -8,16 +8,15 @@ use Rattle.words.specs.Rows.{none, rowAt}
 use Rattle.words.specs.Table.{slots, slots-none, slots-more, slots-end, slot-used}
 use Rattle.words.specs.Words.{wordAt}
 use Rattle.words.specs.declared.Queue.{Queue}
-use Rattle.chain.specs.Refusals.{first, orElse, Silent, silent-as, first-fine, first-append, first-last, or-left, or-right}
-use Rattle.chain.specs.Record.{rowOf, workOf, emptyChain, answered, answered-refused, answered-fine, same-chain}
-use Rattle.chain.specs.Checks.{countCheck}
+use Rattle.chain.specs.Refusals.{first, orElse, Silent, first-append, first-last, or-left, or-right}
+use Rattle.chain.specs.Record.{rowOf, workOf, emptyChain, answered, refused-alike, same-chain}
 use Rattle.chain.specs.Faults.{noFaults, withRow, settled, settled-is}
 use Rattle.chain.specs.declared.Refusal.{Refusal}
 use Rattle.chain.specs.declared.Chain.{Chain}
 use Rattle.chain.specs.declared.ChainAnswer.{ChainAnswer}
 use Rattle.chain.specs.declared.checks.Faults.{Faults}
 use Rattle.chain.proofs.Gather.{Gathered, gather-none, gather-more, gather-end, faults-alike}
-use Rattle.chainfile.specs.File.{countOf, periodOf, queuesAt, nodesAt, chainOf, lengthCheck, offsetTests, offsetCheck, fileOffsets, fileRange, fileOrder, readChecks, headerRefusal, rowsRefusal, readRefusal, readAnswer}
+use Rattle.chainfile.specs.File.{countOf, periodOf, queuesAt, nodesAt, chainOf, offsetTests, offsetCheck, fileOffsets, readChecks, headerRefusal, rowsRefusal, readRefusal, readAnswer}
 
 -- check 3 as the header's last, from the words that code has read
 pub offset-last : (f : List ℕ) {r : Refusal} {n q w : ℕ} → r ≡ offsetCheck (length f) n q w → n ≡ countOf f → q ≡ queuesAt f → w ≡ nodesAt f → r ≡ first (fileOffsets f ∷ [])
@@ -30,9 +29,9 @@ unfolding readRefusal headerRefusal rowsRefusal
 read-parts f = first-append (take 3 (readChecks f)) (drop 3 (readChecks f))
 
 -- the reader's two ways out: the header is refused, or the rows answer
-pub header-refused : (f : List ℕ) {h : Refusal} → h ≡ headerRefusal f → (Silent h → ⊥) → record { number = h .number; place = h .place; chain = emptyChain } ≡ readAnswer f
+pub header-refused : (f : List ℕ) {h : Refusal} {a : ChainAnswer} → h ≡ headerRefusal f → (Silent h → ⊥) → a ≡ answered h emptyChain → a ≡ readAnswer f
 unfolding readAnswer
-header-refused f is n = answered-refused (chainOf f) (or-left _ is n ∙ sym (read-parts f)) n
+header-refused f is n e = e ∙ refused-alike _ _ _ n ∙ ap (λ (r : Refusal). answered r (chainOf f)) (or-left _ is n ∙ sym (read-parts f))
 
 pub rows-answer : (f : List ℕ) {h : Refusal} {a : ChainAnswer} → h ≡ headerRefusal f → Silent h → a ≡ answered (rowsRefusal f) (chainOf f) → a ≡ readAnswer f
 unfolding readAnswer
@@ -93,12 +92,6 @@ load-end f {n} {y} {q} {w} {i} {at} {to} {c} {x} s en ey eq ew few l =
     let t : Loading f (countOf f) (periodOf f) (queuesAt f) (nodesAt f) i at to c x = rw (en, ey, eq, ew) at s in
     loaded f t (omega arith) (omega arith)
 
--- the two ways out of a file whose header is sound
-pub load-refused : {f : List ℕ} {c : Chain} {x : Faults} {r : Refusal} → Rows f c x → r ≡ settled (c .period) x → (Silent r → ⊥) → record { number = r .number; place = r .place; chain = emptyChain } ≡ answered (rowsRefusal f) (chainOf f)
-load-refused {f} l e n = answered-refused (chainOf f) (e ∙ l .refusal-is) n
-
-pub load-done : {f : List ℕ} {c : Chain} {x : Faults} {r : Refusal} → Rows f c x → r ≡ settled (c .period) x → Silent r → record { number = 0; place = 0; chain = c } ≡ answered (rowsRefusal f) (chainOf f)
-unfolding rowsRefusal
-load-done {f} l e z =
-    let silent = first-fine (drop 3 (readChecks f)) (silent-as (e ∙ l .refusal-is) z) in
-    ap (λ (c : Chain). record { number = 0; place = 0; chain = c }) (l .record-is) ∙ answered-fine (chainOf f) (sym silent)
+-- the answer to a file whose header is sound
+pub load-answer : {f : List ℕ} {c : Chain} {x : Faults} {r : Refusal} {a : ChainAnswer} → Rows f c x → r ≡ settled (c .period) x → a ≡ answered r c → a ≡ answered (rowsRefusal f) (chainOf f)
+load-answer l e g = g ∙ ap₂ answered (e ∙ l .refusal-is) (l .record-is)

@@ -4,7 +4,7 @@
 --   read-accepts           the reader accepts exactly such a file
 --   write-accepts          the writer accepts exactly a sound chain that fits
 --   read-fine, write-fine  a call that is silent answers number 0 with place 0
-use mathlib.Core.Path.{_≡_, refl, sym, _∙_}
+use mathlib.Core.Path.{_≡_, refl}
 use mathlib.Core.Bool.{Bool, false}
 use mathlib.Core.Logic.{_↔_, Iff·trans}
 use mathlib.Core.List.{List, [], _∷_}

@@ -1,6 +1,7 @@
 -- The packed file and the writer (01, Chain file: "the writer writes only that").
 --   packedLength n       20+24n
 --   header n y           the header's words
+--   rows c i, nodes c i  the words of the first i rows, and of the first i execution times
 --   words c              all words: header, queue table, node table
 --   packed c             their bytes
 --   roomCheck need room  10: lent output shorter than what would be written
@@ -8,11 +9,11 @@
 --   writeRefusal c room  what the writer refuses c with, the lent output being `room` bytes long
 --   Output r t o p a     what a call that writes a text t into lent bytes o answers and leaves there, its refusal being r
 --   output-fine          what it is where nothing is refused
---   room-exact           10 is said exactly under its condition
+--   room-exact, -only    10 is said exactly under its condition, and no other number is
 --   write-2, write-4, write-5, write-10
 --                        when a chain is refused with each number
---   packed-length, packed-parts
---                        how long the packed file is, and what it is made of
+--   rows-, nodes-, packed-length, packed-parts
+--                        how long the tables and the file are, and what the file is made of
 --   TableFits, Fits      what the code of the writer asks: few queues, and room
 use mathlib.Core.Path.{_≡_, refl, ap, _∙_}
 use mathlib.Core.Bool.{cond}

@@ -8,7 +8,7 @@
 --   ignored                            "Bytes in neither header nor table are ignored"
 use mathlib.Core.Path.{_≡_, refl, sym, ap, ap₂, _∙_}
 use mathlib.Core.List.{List, [], _∷_, _++_}
-use Prim.Native.Nat.{ℕ, zero, suc, _+_, _*_, _^_, _≤_, _<_}
+use Prim.Native.Nat.{ℕ, _+_, _*_, _^_, _≤_, _<_}
 use native.Mathlib.Nat.{add-zero}
 use native.Mathlib.Omega.{arith}
 use lib.ListN.{length, getD, take, drop, List·getD-append}
@@ -19,9 +19,8 @@ use Rattle.words.specs.Words.{bytesOf, wordAt, bytes-length, word-at, Bytes, pa
 use Rattle.words.specs.Rows.{none, row, rowAt, row-there, same-row, table-back, row-back, row-alike}
 use Rattle.words.specs.declared.Queue.{Queue}
 use Rattle.chain.specs.Refusals.{first, Silent}
-use Rattle.chain.specs.Record.{rowOf, workOf, emptyChain, trimmed, answered, answered-fine, same-chain, trimmed-answer}
+use Rattle.chain.specs.Record.{rowOf, workOf, trimmed, answered, answered-fine, same-chain, trimmed-answer}
 use Rattle.chain.specs.Sound.{SoundRow, Sound}
-use Rattle.chain.specs.Factory.{factoryChains, factoryRefusal, factoryAnswer}
 use Rattle.chain.specs.declared.Chain.{Chain}
 use Rattle.chain.specs.declared.ChainAnswer.{ChainAnswer}
 use Rattle.chainfile.specs.File.{countOf, periodOf, queuesAt, nodesAt, totalOf, chainOf, readChecks, readRefusal, readAnswer}

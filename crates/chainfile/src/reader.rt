@@ -13,11 +13,7 @@ pub fn read(file: &[u8]) -> ChainAnswer
 {
     let header = header_check(file);
     if header.number != 0 {
-        return ChainAnswer {
-            number: header.number,
-            place: header.place,
-            chain: chain::EMPTY,
-        };
+        return chain::answer(header, chain::EMPTY);
     }
     load(file)
 }
@@ -111,17 +107,5 @@ fn load(file: &[u8]) -> ChainAnswer
         at += 20;
         to += 4;
     }
-    let wrong = chain::settle(chain.period, faults);
-    if wrong.number != 0 {
-        return ChainAnswer {
-            number: wrong.number,
-            place: wrong.place,
-            chain: chain::EMPTY,
-        };
-    }
-    ChainAnswer {
-        number: 0,
-        place: 0,
-        chain: chain,
-    }
+    chain::answer(chain::settle(chain.period, faults), chain)
 }

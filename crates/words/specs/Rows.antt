@@ -1,7 +1,8 @@
 -- Queue rows: five words in a row (01, Chain file: "a queue row has five words").
 --   none              the row of a slot that no queue has
 --   row q             the five words of a row, in file order
---   rowAt s at        the row of s at `at`; none where it would pass the end
+--   rowFrom s at      the row of the five words from `at` on
+--   rowAt s at        that row; none where it would pass the end
 --   row-there, -past  its two cases
 --   same-row          rows of equal words are equal
 --   row-made          five words, read where the row is there, are the row

@@ -5,7 +5,8 @@
 --                      what characterises a table: its length, its elements, and that they are all there is to it
 --   tab-last, -more    one element more, at the end
 --   tab-alike          tables of equal elements are equal
---   slot-used, -free   what a slot below n holds, and what one from n on does
+--   slot-used, -free, is-slots
+--                      what a slot below n holds, what one from n on does, and that this is all there is to it
 --   slots-none, -more, -end
 --                      a table filled slot by slot: at the start, after one slot more, and at the end
 --   slots-alike        tables that are filled alike are equal

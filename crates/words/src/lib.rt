@@ -34,6 +34,7 @@ pub fn word_of(bytes: &[u8], at: usize) -> u32
     if n < 4 {
         return 0;
     }
+    // `at + 4` could pass the machine's numbers; `n - 4` cannot.
     if n - 4 < at {
         return 0;
     }

@@ -2,7 +2,7 @@
 use Prim.Native.Nat.{_-_}
 use native.Mathlib.Omega.{arith}
 use borrow.Author.Needs.{needs}
-use Rattle.chainfile.proofs.Reading.{Loading, load-none, load-more, load-end, load-refused, load-done}
+use Rattle.chainfile.proofs.Reading.{Loading, load-none, load-more, load-end, load-answer}
 use Rattle.chainfile.proofs.reader.load.Statement.{statement}
 use Rattle.chainfile.proofs.reader.load.Tie as tie
 
@@ -75,11 +75,13 @@ loop-again c = load-more _ _ _ _ _ (c .before .before .before .before .loop .inv
 settle-requires : tie.Need-settle-requires Inv-loop μ-loop
 settle-requires c κs = search needs
 
-returns : tie.Need-returns Inv-loop μ-loop
-returns c = load-refused (load-end _ (c .before .before .before .before .loop .inv) (c .before .before .before .before .before .before .before .before .word-of .ensures) (c .before .before .before .before .before .before .before .word-of2 .ensures) (c .before .before .before .before .before .before .word-of3 .ensures) (c .before .before .before .before .before .word-of4 .ensures) (omega (arith, c .before .before .before .before .before .before .before .before .before .before .pre .count, c .before .before .before .before .before .before .before .before .word-of .ensures)) (c .before .before .before .loop-test .left)) (c .before .before .settle .ensures) (c .if1 .taken)
+answer-requires : tie.Need-answer-requires Inv-loop μ-loop
+answer-requires c κs = search needs
 
-returns-2 : tie.Need-returns-2 Inv-loop μ-loop
-returns-2 c = load-done (load-end _ (c .before .before .before .before .loop .inv) (c .before .before .before .before .before .before .before .before .word-of .ensures) (c .before .before .before .before .before .before .before .word-of2 .ensures) (c .before .before .before .before .before .before .word-of3 .ensures) (c .before .before .before .before .before .word-of4 .ensures) (omega (arith, c .before .before .before .before .before .before .before .before .before .before .pre .count, c .before .before .before .before .before .before .before .before .word-of .ensures)) (c .before .before .before .loop-test .left)) (c .before .before .settle .ensures) (c .if1 .left)
+returns : tie.Need-returns Inv-loop μ-loop
+returns c =
+    let rows = load-end _ (c .before .before .before .loop .inv) (c .before .before .before .before .before .before .before .word-of .ensures) (c .before .before .before .before .before .before .word-of2 .ensures) (c .before .before .before .before .before .word-of3 .ensures) (c .before .before .before .before .word-of4 .ensures) (omega (arith, c .before .before .before .before .before .before .before .before .before .pre .count, c .before .before .before .before .before .before .before .word-of .ensures)) (c .before .before .loop-test .left) in
+    load-answer rows (c .before .settle .ensures) (c .answer .ensures)
 
 pub load-spec : {M : Type 1} → statement M
 load-spec =
@@ -108,5 +110,5 @@ load-spec =
     loop-less
     loop-again
     settle-requires
-    returns
-    returns-2)
+    answer-requires
+    returns)
