@@ -9,7 +9,7 @@ use Rattle.words.specs.Put.{Puts, puts-none, put-front}
 use Rattle.words.specs.Flat.{flat, flat-more}
 use Rattle.words.specs.Words.{bytesOf, then-words}
 use Rattle.chain.specs.Refusals.{refused, fine, first, orElse, Silent, first-append}
-use Rattle.chain.specs.Checks.{countCheck, recordRange, recordOrder, chainRefusal}
+use Rattle.chain.specs.Checks.{chainChecks, chainRefusal}
 use Rattle.chain.specs.declared.Refusal.{Refusal}
 use Rattle.chain.specs.declared.Chain.{Chain}
 use Rattle.chainfile.specs.Packed.{packedLength, header, rows, nodes, packed, roomCheck, writeRefusal, Output}
@@ -22,7 +22,7 @@ output-done {s} {t} {o} e l w = rw (← e) (record { answer = ap (λ (n : ℕ). 
 
 pub write-parts : (c : Chain) (room : ℕ) → writeRefusal c room ≡ orElse (chainRefusal c) (first (roomCheck (packedLength (c .n)) room ∷ []))
 unfolding writeRefusal chainRefusal
-write-parts c room = first-append (countCheck (c .n) ∷ recordRange c ∷ recordOrder c ∷ []) (roomCheck (packedLength (c .n)) room ∷ [])
+write-parts c room = first-append (chainChecks c) (roomCheck (packedLength (c .n)) room ∷ [])
 
 -- the two cases of the room, as code has them, behind a silent record
 pub room-short : (need room : ℕ) → room < need → refused 10 need ≡ first (roomCheck need room ∷ [])
