@@ -19,7 +19,8 @@
 --   all-silent               a table is silent exactly when each of its checks is
 --   says-last, test-alone    a check that stands alone or last
 --   test-exact, test-silent  a test speaks exactly where it fails, and is silent exactly where it passes
---   only-..                  what keeps to one number
+--   only-test, -fine, -or, -map, -tab
+--                            what keeps to one number
 --   exact-at                 a list says the number of its check k at L exactly when the checks before it are silent and it says so
 use mathlib.Core.Path.{_≡_, refl, sym, ap, ap₂, _∙_}
 use mathlib.Core.Bool.{Bool, true, false, cond, not, _&&_, true≢false}

@@ -1,7 +1,8 @@
 -- Tests on numbers, and the facts that they decide.
 --   outside least most v     v is below the least or above the most
 --   Out, In                  the two facts: out of the range, in it
---   X-true, X-false          the test X holds, or fails, exactly under the fact named beside it
+--   outside-, below-, differ-, or-true and -false, and-true
+--                            the test holds, or fails, exactly under the fact named beside it
 --   sum-iff                  facts that hold exactly under others, of which one holds
 use mathlib.Core.Path.{_≡_, refl, sym}
 use mathlib.Core.Bool.{Bool, true, false, _||_, _&&_, not, true≢false}

@@ -1,2 +1,2 @@
 mod Reading
-pub mod Writing
+mod Writing

@@ -1,7 +1,6 @@
 -- Bytes put into a lent slice at a place.
 --   Room l i k          k bytes from place i on lie inside l
 --   Puts l i t m r      m is l with the text t stored from place i on and all else as it was; r is the place behind t
---   put-put             one text, then the next one behind it, is both in a row
 --   put-front           a text stored at the front: the text, then the rest of the list as it was
 --   puts-none, then     no text; one writer after the other
 --   puts-length         a writer keeps the length

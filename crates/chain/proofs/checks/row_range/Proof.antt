@@ -2,10 +2,9 @@
 use borrow.Author.Needs.{needs}
 use Prim.Native.Nat.{_+_}
 use Rattle.chain.specs.Tests.{outside}
-use Rattle.chain.specs.Refusals.{test-alone}
 use mathlib.Core.Path.{_∙_}
 use native.Mathlib.Omega.{arith}
-use Rattle.chain.specs.Refusals.{first, or-left, or-right}
+use Rattle.chain.specs.Refusals.{first, or-left, or-right, test-alone}
 use Rattle.chain.specs.Checks.{rowFields}
 use Rattle.chain.specs.Sound.{rowRange}
 use Rattle.chain.proofs.checks.row_range.Statement.{statement}
@@ -36,7 +35,12 @@ field-check-requires-3 c κs = search needs
 
 returns-3 : tie.Need-returns-3
 unfolding rowRange rowFields first
-returns-3 c = or-right (c .before .before .before .before .before .before .before .before .field-check .ensures) (c .before .before .before .before .before .before .if1 .left) (or-right (c .before .before .before .before .before .field-check2 .ensures) (c .before .before .before .if2 .left) (or-left _ (c .before .before .field-check3 .ensures) (c .if3 .taken)))
+returns-3 c =
+    let c2 = c .before .before .before in
+    let c1 = c2 .before .before .before in
+    or-right (c1 .before .before .field-check .ensures) (c1 .if1 .left)
+    (or-right (c2 .before .before .field-check2 .ensures) (c2 .if2 .left)
+    (or-left _ (c .before .before .field-check3 .ensures) (c .if3 .taken)))
 
 add-field-check-3 : tie.Need-add-field-check-3
 add-field-check-3 c = search needs
@@ -46,7 +50,14 @@ field-check-requires-4 c κs = search needs
 
 returns-4 : tie.Need-returns-4
 unfolding rowRange rowFields first
-returns-4 c = or-right (c .before .before .before .before .before .before .before .before .before .before .before .field-check .ensures) (c .before .before .before .before .before .before .before .before .before .if1 .left) (or-right (c .before .before .before .before .before .before .before .before .field-check2 .ensures) (c .before .before .before .before .before .before .if2 .left) (or-right (c .before .before .before .before .before .field-check3 .ensures) (c .before .before .before .if3 .left) (or-left _ (c .before .before .field-check4 .ensures) (c .if4 .taken))))
+returns-4 c =
+    let c3 = c .before .before .before in
+    let c2 = c3 .before .before .before in
+    let c1 = c2 .before .before .before in
+    or-right (c1 .before .before .field-check .ensures) (c1 .if1 .left)
+    (or-right (c2 .before .before .field-check2 .ensures) (c2 .if2 .left)
+    (or-right (c3 .before .before .field-check3 .ensures) (c3 .if3 .left)
+    (or-left _ (c .before .before .field-check4 .ensures) (c .if4 .taken))))
 
 add-field-check-4 : tie.Need-add-field-check-4
 add-field-check-4 c = search needs
@@ -57,8 +68,16 @@ field-check-requires-5 c κs = search needs
 returns-5 : tie.Need-returns-5
 unfolding rowRange rowFields first
 returns-5 c =
-    let a = c .before .before .before .before .before .before .before .before .before .before .before .before .before .args in
-    or-right (c .before .before .before .before .before .before .before .before .before .before .before .before .field-check .ensures) (c .before .before .before .before .before .before .before .before .before .before .if1 .left) (or-right (c .before .before .before .before .before .before .before .before .before .field-check2 .ensures) (c .before .before .before .before .before .before .before .if2 .left) (or-right (c .before .before .before .before .before .before .field-check3 .ensures) (c .before .before .before .before .if3 .left) (or-right (c .before .before .before .field-check4 .ensures) (c .before .if4 .left) (c .field-check5 .ensures ∙ test-alone 4 (a .at + 16) (λ z. omega arith) (outside 0 0 (a .row .reserved))))))
+    let c4 = c .before in
+    let c3 = c4 .before .before .before in
+    let c2 = c3 .before .before .before in
+    let c1 = c2 .before .before .before in
+    let a = c1 .before .before .before .args in
+    or-right (c1 .before .before .field-check .ensures) (c1 .if1 .left)
+    (or-right (c2 .before .before .field-check2 .ensures) (c2 .if2 .left)
+    (or-right (c3 .before .before .field-check3 .ensures) (c3 .if3 .left)
+    (or-right (c4 .before .before .field-check4 .ensures) (c4 .if4 .left)
+    (c .field-check5 .ensures ∙ test-alone 4 (a .at + 16) (λ z. omega arith) (outside 0 0 (a .row .reserved))))))
 
 pub row-range-spec : {M : Type 1} → statement M
 row-range-spec =

@@ -26,7 +26,10 @@ count-check-requires c κs = search needs
 
 returns-2 : tie.Need-returns-2
 unfolding headerRefusal first
-returns-2 c = or-right (c .before .before .before .before .before .before .test .ensures ∙ ap (test 1 0) (c .before .before .before .before .before .before .before .is-wrong-length .ensures)) (c .before .before .before .before .if1 .left) (or-left _ (c .before .before .count-check .ensures ∙ ap countCheck (c .before .before .before .word-of .ensures)) (c .if2 .taken))
+returns-2 c =
+    let c1 = c .before .before .before .before in
+    or-right (c1 .before .before .test .ensures ∙ ap (test 1 0) (c1 .before .before .before .is-wrong-length .ensures)) (c1 .if1 .left)
+    (or-left _ (c .before .before .count-check .ensures ∙ ap countCheck (c .before .before .before .word-of .ensures)) (c .if2 .taken))
 
 word-of-requires-2 : tie.Need-word-of-requires-2
 word-of-requires-2 c κs = search needs
@@ -39,7 +42,12 @@ offset-check-requires c κs = search needs
 
 returns-3 : tie.Need-returns-3
 unfolding headerRefusal first
-returns-3 c = or-right (c .before .before .before .before .before .before .before .before .before .test .ensures ∙ ap (test 1 0) (c .before .before .before .before .before .before .before .before .before .before .is-wrong-length .ensures)) (c .before .before .before .before .before .before .before .if1 .left) (or-right (c .before .before .before .before .before .count-check .ensures ∙ ap countCheck (c .before .before .before .before .before .before .word-of .ensures)) (c .before .before .before .if2 .left) (offset-last _ (c .offset-check .ensures) (c .before .before .before .before .before .before .word-of .ensures) (c .before .before .word-of2 .ensures) (c .before .word-of3 .ensures)))
+returns-3 c =
+    let c2 = c .before .before .before in
+    let c1 = c2 .before .before .before .before in
+    or-right (c1 .before .before .test .ensures ∙ ap (test 1 0) (c1 .before .before .before .is-wrong-length .ensures)) (c1 .if1 .left)
+    (or-right (c2 .before .before .count-check .ensures ∙ ap countCheck (c2 .before .before .before .word-of .ensures)) (c2 .if2 .left)
+    (offset-last _ (c .offset-check .ensures) (c2 .before .before .before .word-of .ensures) (c .before .before .word-of2 .ensures) (c .before .word-of3 .ensures)))
 
 pub header-check-spec : {M : Type 1} → statement M
 header-check-spec =

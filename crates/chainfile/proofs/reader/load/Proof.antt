@@ -43,34 +43,50 @@ word-of-requires-5 : tie.Need-word-of-requires-5 Inv-loop μ-loop
 word-of-requires-5 c κs = search needs
 
 with-row-requires : tie.Need-with-row-requires Inv-loop μ-loop
-with-row-requires c κs = record { ends = omega (arith, c .before .before .before .before .before .before .before .before .before .pre .queues, c .before .before .before .before .before .before .before .before .before .pre .long, c .before .before .before .loop .inv .gathered .queue, c .before .before .before .before .before .before .before .word-of .ensures, c .before .before .before .before .before .word-of3 .ensures) }
+with-row-requires c κs =
+    let l = c .before .before .before in
+    let a = l .before .before .before .before .before .before in
+    record { ends = omega (arith, a .pre .queues, a .pre .long, l .loop .inv .gathered .queue, l .before .before .before .before .word-of .ensures, l .before .before .word-of3 .ensures) }
 
 mul-row : tie.Need-mul-row Inv-loop μ-loop
 mul-row c = search needs
 
 element-set-from-row : tie.Need-element-set-from-row Inv-loop μ-loop
-element-set-from-row c = omega (arith, c .before .before .before .before .before .before .before .before .before .before .pre .count, c .before .before .before .before .before .before .before .before .word-of .ensures)
+element-set-from-row c =
+    let l = c .before .before .before .before in
+    omega (arith, l .before .before .before .before .before .before .pre .count, l .before .before .before .before .word-of .ensures)
 
 mul-chain : tie.Need-mul-chain Inv-loop μ-loop
 mul-chain c = search needs
 
 element-write-chain : tie.Need-element-write-chain Inv-loop μ-loop
-element-write-chain c = omega (arith, c .before .before .before .before .before .before .before .before .before .before .pre .count, c .before .before .before .before .before .before .before .before .word-of .ensures)
+element-write-chain c =
+    let l = c .before .before .before .before in
+    omega (arith, l .before .before .before .before .before .before .pre .count, l .before .before .before .before .word-of .ensures)
 
 add-i : tie.Need-add-i Inv-loop μ-loop
 add-i c = search needs
 
 add-at : tie.Need-add-at Inv-loop μ-loop
-add-at c = omega (arith, c .before .before .before .before .before .before .before .before .before .before .pre .queues, c .before .before .before .before .before .before .before .before .before .before .pre .long, c .before .before .before .before .loop .inv .gathered .queue, c .before .before .before .before .before .before .before .before .word-of .ensures, c .before .before .before .before .before .before .word-of3 .ensures)
+add-at c =
+    let l = c .before .before .before .before in
+    let a = l .before .before .before .before .before .before in
+    omega (arith, a .pre .queues, a .pre .long, l .loop .inv .gathered .queue, l .before .before .before .before .word-of .ensures, l .before .before .word-of3 .ensures)
 
 add-to : tie.Need-add-to Inv-loop μ-loop
-add-to c = omega (arith, c .before .before .before .before .before .before .before .before .before .before .pre .nodes, c .before .before .before .before .before .before .before .before .before .before .pre .long, c .before .before .before .before .loop .inv .gathered .node, c .before .before .before .before .before .before .before .before .word-of .ensures, c .before .before .before .before .before .word-of4 .ensures)
+add-to c =
+    let l = c .before .before .before .before in
+    let a = l .before .before .before .before .before .before in
+    omega (arith, a .pre .nodes, a .pre .long, l .loop .inv .gathered .node, l .before .before .before .before .word-of .ensures, l .before .word-of4 .ensures)
 
 loop-less : tie.Need-loop-less Inv-loop μ-loop
 loop-less c = search needs
 
 loop-again : tie.Need-loop-again Inv-loop μ-loop
-loop-again c = load-more _ _ _ _ _ (c .before .before .before .before .loop .inv) (omega (arith, c .before .before .before .before .before .before .before .before .before .before .pre .count, c .before .before .before .before .before .before .before .before .word-of .ensures)) (c .before .before .before .loop-test .taken) (c .before .before .row-of .ensures) (c .before .word-of5 .ensures) (c .with-row .ensures)
+loop-again c =
+    let l = c .before .before .before .before in
+    load-more _ _ _ _ _ (l .loop .inv) (omega (arith, l .before .before .before .before .before .before .pre .count, l .before .before .before .before .word-of .ensures)) (c .before .before .before .loop-test .taken)
+    (c .before .before .row-of .ensures) (c .before .word-of5 .ensures) (c .with-row .ensures)
 
 settle-requires : tie.Need-settle-requires Inv-loop μ-loop
 settle-requires c κs = search needs
@@ -80,7 +96,9 @@ answer-requires c κs = search needs
 
 returns : tie.Need-returns Inv-loop μ-loop
 returns c =
-    let rows = load-end _ (c .before .before .before .loop .inv) (c .before .before .before .before .before .before .before .word-of .ensures) (c .before .before .before .before .before .before .word-of2 .ensures) (c .before .before .before .before .before .word-of3 .ensures) (c .before .before .before .before .word-of4 .ensures) (omega (arith, c .before .before .before .before .before .before .before .before .before .pre .count, c .before .before .before .before .before .before .before .word-of .ensures)) (c .before .before .loop-test .left) in
+    let l = c .before .before .before in
+    let n = l .before .before .before .before .word-of .ensures in
+    let rows = load-end _ (l .loop .inv) n (l .before .before .before .word-of2 .ensures) (l .before .before .word-of3 .ensures) (l .before .word-of4 .ensures) (omega (arith, l .before .before .before .before .before .before .pre .count)) (c .before .before .loop-test .left) in
     load-answer rows (c .before .settle .ensures) (c .answer .ensures)
 
 pub load-spec : {M : Type 1} → statement M

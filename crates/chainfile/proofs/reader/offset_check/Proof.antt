@@ -39,7 +39,10 @@ test-requires-2 c κs = search needs
 
 returns-2 : tie.Need-returns-2
 unfolding offsetCheck first
-returns-2 c = or-right (c .before .before .before .before .before .before .test .ensures ∙ ap (test 3 8) (c .before .before .before .before .before .before .before .is-bad-table .ensures)) (c .before .before .before .before .if1 .left) (or-left _ (c .before .before .test2 .ensures ∙ ap (test 3 12) (c .before .before .before .is-bad-table2 .ensures)) (c .if2 .taken))
+returns-2 c =
+    let c1 = c .before .before .before .before in
+    or-right (c1 .before .before .test .ensures ∙ ap (test 3 8) (c1 .before .before .before .is-bad-table .ensures)) (c1 .if1 .left)
+    (or-left _ (c .before .before .test2 .ensures ∙ ap (test 3 12) (c .before .before .before .is-bad-table2 .ensures)) (c .if2 .taken))
 
 do-overlap-requires : tie.Need-do-overlap-requires
 do-overlap-requires c κs = search needs
@@ -49,7 +52,13 @@ test-requires-3 c κs = search needs
 
 returns-3 : tie.Need-returns-3
 unfolding offsetCheck first
-returns-3 c = or-right (c .before .before .before .before .before .before .before .before .test .ensures ∙ ap (test 3 8) (c .before .before .before .before .before .before .before .before .before .is-bad-table .ensures)) (c .before .before .before .before .before .before .if1 .left) (or-right (c .before .before .before .before .test2 .ensures ∙ ap (test 3 12) (c .before .before .before .before .before .is-bad-table2 .ensures)) (c .before .before .if2 .left) (c .test3 .ensures ∙ test-alone 3 12 (λ e. omega arith) (c .before .do-overlap .result) ∙ ap (λ (b : Bool). first (test 3 12 b ∷ [])) (c .before .do-overlap .ensures)))
+returns-3 c =
+    let c2 = c .before .before in
+    let c1 = c2 .before .before .before .before in
+    or-right (c1 .before .before .test .ensures ∙ ap (test 3 8) (c1 .before .before .before .is-bad-table .ensures)) (c1 .if1 .left)
+    (or-right (c2 .before .before .test2 .ensures ∙ ap (test 3 12) (c2 .before .before .before .is-bad-table2 .ensures)) (c2 .if2 .left)
+    (c .test3 .ensures ∙ test-alone 3 12 (λ e. omega arith) (c .before .do-overlap .result)
+    ∙ ap (λ (b : Bool). first (test 3 12 b ∷ [])) (c .before .do-overlap .ensures)))
 
 pub offset-check-spec : {M : Type 1} → statement M
 offset-check-spec =

@@ -42,7 +42,14 @@ same-length c = search needs
 
 returns : tie.Need-returns
 unfolding bytesOf
-returns c = then (c .before .before .before .before .before .before .before .before .before .before .before .before .before .before .before .before .before .before .put-word .ensures) (then (c .before .before .before .before .before .before .before .before .before .before .before .before .before .before .put-word2 .ensures) (then (c .before .before .before .before .before .before .before .before .before .before .put-word3 .ensures) (then (c .before .before .before .before .before .before .put-word4 .ensures) (c .before .before .put-word5 .ensures))))
+returns c =
+    let c4 = c .before .before .before .before in
+    let c3 = c4 .before .before .before .before in
+    let c2 = c3 .before .before .before .before in
+    let c1 = c2 .before .before .before .before in
+    then (c1 .before .before .put-word .ensures)
+    (then (c2 .before .before .put-word2 .ensures)
+    (then (c3 .before .before .put-word3 .ensures) (then (c4 .before .before .put-word4 .ensures) (c .before .before .put-word5 .ensures))))
 
 pub put-header-spec : {M : Type 1} → statement M
 put-header-spec =

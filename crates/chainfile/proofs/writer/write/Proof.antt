@@ -28,16 +28,24 @@ cast-t9 : tie.Need-cast-t9
 cast-t9 c = omega (arith, sound-known (c .before .before .before .before .before .before .args .chain) (c .before .before .before .before .check-chain .ensures) (c .before .before .if1 .left) .count)
 
 returns-2 : tie.Need-returns-2
-returns-2 c = output-refused _ _ (or-right (c .before .before .before .before .check-chain .ensures) (c .before .before .if1 .left) (room-short _ _ (c .if2 .taken)) ∙ sym (write-parts _ _)) (λ z. omega arith)
+returns-2 c =
+    let c1 = c .before .before in
+    output-refused _ _ (or-right (c1 .before .before .check-chain .ensures) (c1 .if1 .left) (room-short _ _ (c .if2 .taken)) ∙ sym (write-parts _ _)) (λ z. omega arith)
 
 put-chain-requires : tie.Need-put-chain-requires
-put-chain-requires c κs = record { few = sound-known _ (c .before .before .before .before .before .check-chain .ensures) (c .before .before .before .if1 .left) .count .1; room = c .before .if2 .left }
+put-chain-requires c κs =
+    let c1 = c .before .before .before in
+    record { few = sound-known _ (c1 .before .before .check-chain .ensures) (c1 .if1 .left) .count .1; room = c .before .if2 .left }
 
 same-length : tie.Need-same-length
 same-length c = search needs
 
 returns-3 : tie.Need-returns-3
-returns-3 c = output-done (or-right (c .before .before .before .before .before .before .before .before .check-chain .ensures) (c .before .before .before .before .before .before .if1 .left) (room-enough _ _ (c .before .before .before .before .if2 .left)) ∙ sym (write-parts _ _)) (omega (arith, packed-length (c .before .before .before .before .before .before .before .before .before .before .args .chain))) (c .before .before .put-chain .ensures)
+returns-3 c =
+    let c2 = c .before .before .before .before in
+    let c1 = c2 .before .before in
+    output-done (or-right (c1 .before .before .check-chain .ensures) (c1 .if1 .left) (room-enough _ _ (c2 .if2 .left)) ∙ sym (write-parts _ _))
+    (omega (arith, packed-length (c1 .before .before .before .before .args .chain))) (c .before .before .put-chain .ensures)
 
 pub write-spec : {M : Type 1} → statement M
 write-spec =
