@@ -28,7 +28,13 @@ or-else-requires-3 : tie.Need-or-else-requires-3
 or-else-requires-3 c κs = search needs
 
 returns : tie.Need-returns
-returns c = same-faults (or-both (c .before .before .before .before .before .or-else .ensures) refl (c .before .before .before .before .before .before .row-range .ensures)) (or-both (c .before .before .before .or-else2 .ensures) refl (c .before .before .before .before .field-check .ensures)) (or-both (c .or-else3 .ensures) refl (c .before .test .ensures))
+returns c =
+    let second = c .before .before .before in
+    let first = second .before .before in
+    let range = or-both (first .or-else .ensures) refl (first .before .row-range .ensures) in
+    let field = or-both (second .or-else2 .ensures) refl (second .before .field-check .ensures) in
+    let times = or-both (c .or-else3 .ensures) refl (c .before .test .ensures) in
+    same-faults range field times
 
 pub with-row-spec : {M : Type 1} → statement M
 with-row-spec =

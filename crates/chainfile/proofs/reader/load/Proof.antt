@@ -97,8 +97,13 @@ answer-requires c κs = search needs
 returns : tie.Need-returns Inv-loop μ-loop
 returns c =
     let l = c .before .before .before in
-    let n = l .before .before .before .before .word-of .ensures in
-    let rows = load-end _ (l .loop .inv) n (l .before .before .before .word-of2 .ensures) (l .before .before .word-of3 .ensures) (l .before .word-of4 .ensures) (omega (arith, l .before .before .before .before .before .before .pre .count)) (c .before .before .loop-test .left) in
+    let offsets = l .before in
+    let n = offsets .before .before .before .word-of .ensures in
+    let nodes = offsets .before .before .word-of2 .ensures in
+    let queues = offsets .before .word-of3 .ensures in
+    let times = offsets .word-of4 .ensures in
+    let few = offsets .before .before .before .before .before .pre .count in
+    let rows = load-end _ (l .loop .inv) n nodes queues times (omega (arith, few)) (c .before .before .loop-test .left) in
     load-answer rows (c .before .settle .ensures) (c .answer .ensures)
 
 pub load-spec : {M : Type 1} → statement M

@@ -13,19 +13,33 @@ put-header-requires c κs = search needs
 
 put-rows-requires : tie.Need-put-rows-requires
 put-rows-requires c κs =
-    let a = c .before .before .before .before .before .before .args .chain in
-    record { few = c .before .before .before .before .before .before .pre .few; room = omega (arith, puts-length (c .before .before .before .put-header .ensures), bytes-length (header (a .n) (a .period))) }
+    let h = c .before .before .before in
+    let s = h .before .before .before in
+    let a = s .args .chain in
+    let header-room = puts-length (h .put-header .ensures) in
+    record { few = s .pre .few; room = omega (arith, header-room, bytes-length (header (a .n) (a .period))) }
 
 put-times-requires : tie.Need-put-times-requires
 put-times-requires c κs =
-    let a = c .before .before .before .before .before .before .before .before .before .before .args .chain in
-    record { few = c .before .before .before .before .before .before .before .before .before .before .pre .few; room = omega (arith, puts-length (c .before .before .before .before .before .before .before .put-header .ensures), bytes-length (header (a .n) (a .period)), puts-length (c .before .before .before .put-rows .ensures), bytes-length (rows a (a .n)), rows-length a (a .n)) }
+    let r = c .before .before .before in
+    let h = r .before .before .before .before in
+    let s = h .before .before .before in
+    let a = s .args .chain in
+    let header-room = puts-length (h .put-header .ensures) in
+    let rows-room = puts-length (r .put-rows .ensures) in
+    let header-bytes = bytes-length (header (a .n) (a .period)) in
+    let row-bytes = bytes-length (rows a (a .n)) in
+    record { few = s .pre .few; room = omega (arith, header-room, header-bytes, rows-room, row-bytes, rows-length a (a .n)) }
 
 same-length : tie.Need-same-length
 same-length c = search needs
 
 returns : tie.Need-returns
-returns c = file-put _ (c .before .before .before .before .before .before .before .before .before .before .put-header .ensures) (c .before .before .before .before .before .before .put-rows .ensures) (c .before .before .put-times .ensures)
+returns c =
+    let t = c .before .before in
+    let r = t .before .before .before .before in
+    let h = r .before .before .before .before in
+    file-put _ (h .put-header .ensures) (r .put-rows .ensures) (t .put-times .ensures)
 
 pub put-chain-spec : {M : Type 1} → statement M
 put-chain-spec =
