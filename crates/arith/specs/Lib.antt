@@ -1,5 +1,6 @@
 pub mod Division
 pub mod Gcd
 pub mod Bezout
+pub mod Products
 pub mod Width
 pub mod Figures

@@ -1,0 +1,42 @@
+// The rate of a node from that of the node before it, and the load so far, over plain numbers. A queue's gcd of produce
+// and consume is handed in, since its minimum needs it too: what is left of consume is then compared with x alone, in 32 bits.
+ghost use mathlib.Core.Path.{_≡_};
+ghost use Prim.Native.Nat.{_+_, _*_};
+ghost use Rattle.rates.specs.Rates.{rateAfter, Step};
+ghost use Rattle.rates.specs.Load.{capped, Small};
+
+// The rate of a node, x firings in y ticks, before it is known to fit 32 bits; y is `stretch` times that of the node before.
+pub struct Rate {
+    pub x: u64,
+    pub y: u64,
+    pub stretch: u32,
+}
+
+// The rate of the node that a queue feeds, where the node before it has the rate x in y; `g` is the queue's gcd.
+pub fn rate_after(produce: u32, consume: u32, g: u32, x: u32, y: u32) -> Rate
+    requires { ⌜ Step produce consume g x ⌝ }
+    ensures { λ r. ⌜ r ≡ rateAfter produce consume x y ⌝ }
+{
+    let share = consume / g;
+    let common = arith::gcd(x as u64, share as u64) as u32;
+    let stretch = share / common;
+    Rate {
+        x: ((produce / g) as u64) * ((x / common) as u64),
+        y: (stretch as u64) * (y as u64),
+        stretch: stretch,
+    }
+}
+
+// The busy ticks per y of the nodes so far, where those before this one had `busy` per the y before; y + 1 stands for
+// every number above y, so that no sum passes 64 bits.
+pub fn busy_after(busy: u64, stretch: u32, e: u32, x: u32, y: u32) -> u64
+    requires { ⌜ Small busy stretch e ⌝ }
+    ensures { λ r. ⌜ r ≡ capped y (busy * stretch + e * x) ⌝ }
+{
+    let sum = busy * (stretch as u64) + (e as u64) * (x as u64);
+    if (y as u64) < sum {
+        (y as u64) + 1
+    } else {
+        sum
+    }
+}
