@@ -1,7 +1,7 @@
 -- Tests on numbers, and the facts that they decide.
 --   outside least most v     v is below the least or above the most
 --   Out, In                  the two facts: out of the range, in it
---   outside-, below-, differ-, or-true and -false, and-true
+--   outside-, below-, differ-, or-, and-true and -false
 --                            the test holds, or fails, exactly under the fact named beside it
 --   sum-iff                  facts that hold exactly under others, of which one holds
 use mathlib.Core.Path.{_≡_, refl, sym}
@@ -50,6 +50,10 @@ below-false a b = (λ e. ltb-false a b e, λ l. le-ltb a b l)
 pub and-true : {A B : Type 0} {a b : Bool} → (a ≡ true) ↔ A → (b ≡ true) ↔ B → (a && b ≡ true) ↔ (A × B)
 and-true {a = true} h k = (λ e. (h .0 refl, k .0 e), λ s. k .1 (s .1))
 and-true {a = false} h k = (λ e. absurd (true≢false (sym e)), λ s. absurd (true≢false (sym (h .1 (s .0)))))
+
+pub and-false : {A B : Type 0} {a b : Bool} → (a ≡ false) ↔ A → (b ≡ false) ↔ B → (a && b ≡ false) ↔ (A ⊎ B)
+and-false {a = true} h k = (λ e. inr (k .0 e), ⊎-elim (λ x. absurd (true≢false (h .1 x))) (λ y. k .1 y))
+and-false {a = false} h k = (λ e. inl (h .0 refl), λ s. refl)
 
 pub outside-true : (least most v : ℕ) → (outside least most v ≡ true) ↔ Out least most v
 outside-true least most v = or-true (below-true v least) (below-true most v)

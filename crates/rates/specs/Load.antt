@@ -1,6 +1,7 @@
 -- The busy ticks so far (01, Rates, load, minimum), kept where sums could pass 64 bits.
 --   capped y b               b, or y + 1 where b is above y
---   capped-exact             it is above y exactly when b is, and is b where it is not
+--   capped-above, -within    it is above y exactly when b is
+--   capped-same, -over       it is b where b is not above y, and y + 1 where b is; capped-below: so at most y + 1
 --   capped-step              a sum of capped numbers, capped, is the sum, capped
 --   Small busy k e           what the code of a sum asks
 use mathlib.Core.Path.{_≡_}
@@ -22,6 +23,10 @@ capped-above y b = (λ l. omega arith, λ l. omega arith)
 pub capped-same : (y b : ℕ) → b ≤ y → capped y b ≡ b
 unfolding capped
 capped-same y b l = omega arith
+
+pub capped-within : (y b : ℕ) → capped y b ≤ y → b ≤ y
+unfolding capped
+capped-within y b l = omega arith
 
 pub capped-over : (y b : ℕ) → y < b → capped y b ≡ y + 1
 unfolding capped

@@ -71,6 +71,9 @@ module _ (p c x : ℕ) (hc : 0 < c) where
   unfolding stretch
   stretch-below = div-le-self c (common p c x)
 
+  pub next-pos : 0 < p → 0 < x → 0 < nextX p c x
+  next-pos hp hx = cofactor-pos (p * x) (common p c x) (nextX p c x) produce-parts (mul-pos hp hx)
+
   pub next-stretch : (y : ℕ) → nextY p c x y ≡ stretch p c x * y
   unfolding nextY
   next-stretch y = exact (c * y) (common p c x) (stretch p c x * y) common-pos (omega (arith, ap (λ (n : ℕ). n * y) consume-parts))

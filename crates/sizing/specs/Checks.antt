@@ -1,0 +1,217 @@
+-- The checks of the analysis, 6 and 7, and of a run, 8 (01, Numbers a call may refuse with).
+--   limit                      4,294,967,295
+--   rateTest c i, rateCheck c  6 of node i+1, and of the chain: the lowest such node
+--   loadCheck c                7: overloaded
+--   capacityTest c i, capacityCheck c
+--                              8 of queue i, and of the chain: the lowest such queue
+--   sizeChecks c               6 and 7, of a chain that 2, 4 and 5 have passed
+--   analyseChecks c, runChecks c
+--                              the checks of the analysis, and of every run and deadline question, in order
+--   analyseRefusal c, runRefusal c, analyseAnswer c, runAnswer c
+--                              what a chain is refused with, and the whole answer
+--   Slow, FirstFast, FirstShort
+--                              01's conditions of 6 and 8, in words
+--   rate-, load-, capacity-exact, -silent, -only
+--                              each check speaks exactly under its condition, is silent elsewhere, and speaks with its own number
+--   analyse-2 to analyse-7, run-8
+--                              when a chain is refused with each number
+use mathlib.Core.Path.{_≡_, refl}
+use mathlib.Core.Bool.{true, not, _||_, _&&_}
+use mathlib.Core.Logic.{_↔_, _≢_, _⊎_, Iff·trans, Iff·and, Iff·rfl, true-and}
+use mathlib.Core.List.{List, [], _∷_, _++_}
+use Prim.Native.Nat.{ℕ, zero, suc, _+_, _*_, _≤_, _<_}
+use native.Mathlib.Omega.{arith}
+use lib.Dec.{ltb, eqb}
+use lib.ListN.{getD, take}
+use Rattle.words.specs.Table.{tab}
+use Rattle.chain.specs.Tests.{Out, below-true, below-false, differ-true, differ-false, or-true, or-false, and-true, and-false}
+use Rattle.chain.specs.Refusals.{refused, fine, test, first, Silent, Silents, Numbered, exact-at, Lowest, lowest-is, Only, only-test, only-tab, test-exact, test-silent, all-silent}
+use Rattle.chain.specs.Record.{rowOf}
+use Rattle.chain.specs.Checks.{countCheck, rangeCheck, orderCheck, recordRange, recordOrder, chainChecks, fields, FirstOut, FirstOver, count-exact, range-exact, order-exact, count-only, range-only, order-only}
+use Rattle.chain.specs.declared.Refusal.{Refusal}
+use Rattle.chain.specs.declared.Chain.{Chain}
+use Rattle.sizing.specs.Nodes.{xOf, yOf}
+use Rattle.sizing.specs.Load.{busyIn, busyOf, cycleOf}
+use Rattle.sizing.specs.Sizes.{minimumOf, sized}
+use Rattle.sizing.specs.declared.AnalysisAnswer.{AnalysisAnswer}
+
+-- the largest x and the largest y of a rate
+abbrev pub limit : ℕ
+limit = 4294967295
+
+-- 6 of one node: "some x or y of a rate is above 4,294,967,295", place the node
+abbrev pub rateTest : Chain → ℕ → Refusal
+rateTest c i = test 6 (suc i) (ltb limit (xOf c (suc i)) || ltb limit (yOf c (suc i)))
+
+-- 6: the "lowest node"
+unfoldable pub rateCheck : Chain → Refusal
+unfolding first tab xOf yOf
+rateCheck c = first (tab (c .n) (rateTest c))
+
+-- 7: "exact busy above y_n", place 0
+abbrev pub loadCheck : Chain → Refusal
+loadCheck c = test 7 0 (ltb (cycleOf c) (busyOf c))
+
+-- 8 of one queue: "B (not 0) below b", place the queue
+abbrev pub capacityTest : Chain → ℕ → Refusal
+capacityTest c i = test 8 i (not (eqb (rowOf c i .capacity) 0) && ltb (rowOf c i .capacity) (minimumOf (rowOf c i)))
+
+-- 8: the "lowest queue"
+unfoldable pub capacityCheck : Chain → Refusal
+unfolding first tab
+capacityCheck c = first (tab (c .n) (capacityTest c))
+
+-- "analysis checks also 6, 7"
+abbrev pub sizeChecks : Chain → List Refusal
+sizeChecks c = rateCheck c ∷ loadCheck c ∷ []
+
+abbrev pub analyseChecks : Chain → List Refusal
+analyseChecks c = chainChecks c ++ sizeChecks c
+
+-- 8 is of "runs and deadlines only"
+abbrev pub runChecks : Chain → List Refusal
+runChecks c = chainChecks c ++ (rateCheck c ∷ loadCheck c ∷ capacityCheck c ∷ [])
+
+unfoldable pub analyseRefusal : Chain → Refusal
+unfolding first rangeCheck orderCheck rateCheck busyIn
+analyseRefusal c = first (analyseChecks c)
+
+unfoldable pub runRefusal : Chain → Refusal
+unfolding first rangeCheck orderCheck rateCheck busyIn capacityCheck
+runRefusal c = first (runChecks c)
+
+-- the analysis of a chain handed in as a record, and of one that is to be run
+unfoldable pub analyseAnswer : Chain → AnalysisAnswer
+unfolding analyseRefusal sized
+analyseAnswer c = sized (analyseRefusal c) c
+
+unfoldable pub runAnswer : Chain → AnalysisAnswer
+unfolding runRefusal sized
+runAnswer c = sized (runRefusal c) c
+
+-- both numbers of N_i's rate are within the limit
+abbrev pub Slow : Chain → ℕ → Type 0
+Slow c i = (xOf c i ≤ limit) × (yOf c i ≤ limit)
+
+-- 6 in words: L is the lowest node of which x or y passes the limit
+pub record FirstFast (c : Chain) (L : ℕ) : Type 0 where
+  pub node : (1 ≤ L) × (L ≤ c .n)
+  pub above : (limit < xOf c L) ⊎ (limit < yOf c L)
+  pub before : (j : ℕ) → 1 ≤ j → j < L → Slow c j
+
+module _ (c : Chain) where
+  pub rate-silent : (i : ℕ) → Silent (rateTest c i) ↔ Slow c (suc i)
+  rate-silent i = Iff·trans (test-silent 6 (suc i) (λ e. omega arith) _) (or-false (below-false limit (xOf c (suc i))) (below-false limit (yOf c (suc i))))
+
+  rate-says : (i L : ℕ) → (rateTest c i ≡ refused 6 L) ↔ (((limit < xOf c (suc i)) ⊎ (limit < yOf c (suc i))) × (L ≡ suc i))
+  rate-says i L = Iff·trans (test-exact 6 L (suc i) (λ e. omega arith) _) (Iff·and (or-true (below-true limit (xOf c (suc i))) (below-true limit (yOf c (suc i)))) Iff·rfl)
+
+  pub rate-exact : (L : ℕ) → (rateCheck c ≡ refused 6 L) ↔ FirstFast c L
+  unfolding rateCheck
+  rate-exact L = Iff·trans (lowest-is 6 L (λ e. omega arith) (rateTest c) (c .n)) (out, back L)
+    where
+      earlier : (k : ℕ) → ((j : ℕ) → j < k → Silent (rateTest c j)) → (j : ℕ) → 1 ≤ j → j < suc k → Slow c j
+      earlier k h zero p l = absurd (omega arith)
+      earlier k h (suc j) p l = rate-silent j .0 (h j (omega arith))
+
+      out : Lowest (rateTest c) (c .n) 6 L → FirstFast c L
+      out f =
+          let e = rate-says (f .at) L .0 (f .says) in
+          rw (e .1) (record { node = (omega arith, f .inside); above = e .0; before = earlier (f .at) (f .before) })
+
+      back : (m : ℕ) → FirstFast c m → Lowest (rateTest c) (c .n) 6 m
+      back zero f = absurd (omega (arith, f .node .0))
+      back (suc k) f = record {
+        at = k;
+        inside = f .node .1;
+        says = rate-says k (suc k) .1 (f .above, refl);
+        before = λ j l. rate-silent j .1 (f .before (suc j) (omega arith) (omega arith));
+      }
+
+  pub rates-silent : Silent (rateCheck c) ↔ ((i : ℕ) → i < c .n → Slow c (suc i))
+  unfolding rateCheck
+  rates-silent = Iff·trans (all-silent (rateTest c) (c .n)) (λ h i l. rate-silent i .0 (h i l), λ h i l. rate-silent i .1 (h i l))
+
+  pub load-exact : (L : ℕ) → (loadCheck c ≡ refused 7 L) ↔ ((cycleOf c < busyOf c) × (L ≡ 0))
+  load-exact L = Iff·trans (test-exact 7 L 0 (λ e. omega arith) _) (Iff·and (below-true (cycleOf c) (busyOf c)) Iff·rfl)
+
+  pub load-silent : Silent (loadCheck c) ↔ (busyOf c ≤ cycleOf c)
+  load-silent = Iff·trans (test-silent 7 0 (λ e. omega arith) _) (below-false (cycleOf c) (busyOf c))
+
+-- queue i's capacity is written, and below its minimum; or it is neither
+abbrev pub Short : Chain → ℕ → Type 0
+Short c i = (rowOf c i .capacity ≢ 0) × (rowOf c i .capacity < minimumOf (rowOf c i))
+
+abbrev pub Enough : Chain → ℕ → Type 0
+Enough c i = (rowOf c i .capacity ≡ 0) ⊎ (minimumOf (rowOf c i) ≤ rowOf c i .capacity)
+
+-- 8 in words: L is the lowest queue whose capacity is written and below its minimum
+pub record FirstShort (c : Chain) (L : ℕ) : Type 0 where
+  pub queue : L < c .n
+  pub short : Short c L
+  pub before : (j : ℕ) → j < L → Enough c j
+
+module _ (c : Chain) where
+  pub enough-silent : (i : ℕ) → Silent (capacityTest c i) ↔ Enough c i
+  enough-silent i = Iff·trans (test-silent 8 i (λ e. omega arith) _) (and-false (differ-false (rowOf c i .capacity) 0) (below-false (rowOf c i .capacity) (minimumOf (rowOf c i))))
+
+  short-says : (i L : ℕ) → (capacityTest c i ≡ refused 8 L) ↔ (Short c i × (L ≡ i))
+  short-says i L = Iff·trans (test-exact 8 L i (λ e. omega arith) _) (Iff·and (and-true (differ-true (rowOf c i .capacity) 0) (below-true (rowOf c i .capacity) (minimumOf (rowOf c i)))) Iff·rfl)
+
+  pub capacity-exact : (L : ℕ) → (capacityCheck c ≡ refused 8 L) ↔ FirstShort c L
+  unfolding capacityCheck
+  capacity-exact L = Iff·trans (lowest-is 8 L (λ e. omega arith) (capacityTest c) (c .n)) (out, back)
+    where
+      out : Lowest (capacityTest c) (c .n) 8 L → FirstShort c L
+      out f =
+          let e = short-says (f .at) L .0 (f .says) in
+          rw (e .1) (record { queue = f .inside; short = e .0; before = λ j l. enough-silent j .0 (f .before j l) })
+
+      back : FirstShort c L → Lowest (capacityTest c) (c .n) 8 L
+      back f = record { at = L; inside = f .queue; says = short-says L L .1 (f .short, refl); before = λ j l. enough-silent j .1 (f .before j l) }
+
+  pub capacity-silent : Silent (capacityCheck c) ↔ ((i : ℕ) → i < c .n → Enough c i)
+  unfolding capacityCheck
+  capacity-silent = Iff·trans (all-silent (capacityTest c) (c .n)) (λ h i l. enough-silent i .0 (h i l), λ h i l. enough-silent i .1 (h i l))
+
+  -- each check speaks with its own number only
+  pub rate-only : Only 6 (rateCheck c)
+  unfolding rateCheck
+  rate-only = only-tab 6 (rateTest c) (λ i. only-test 6 (suc i) (ltb limit (xOf c (suc i)) || ltb limit (yOf c (suc i)))) (c .n)
+
+  pub load-only : Only 7 (loadCheck c)
+  load-only = only-test 7 0 (ltb (cycleOf c) (busyOf c))
+
+  pub capacity-only : Only 8 (capacityCheck c)
+  unfolding capacityCheck
+  capacity-only = only-tab 8 (capacityTest c) (λ i. only-test 8 i (not (eqb (rowOf c i .capacity) 0) && ltb (rowOf c i .capacity) (minimumOf (rowOf c i)))) (c .n)
+
+-- a chain is refused with a number exactly when no earlier check speaks and the number's own condition holds
+module _ (c : Chain) (L : ℕ) where
+  analyse-at : (k : ℕ) → k < 5 → (analyseRefusal c ≡ refused (getD (2 ∷ 4 ∷ 5 ∷ 6 ∷ 7 ∷ []) k 0) L) ↔ (Silents (take k (analyseChecks c)) × (getD (analyseChecks c) k fine ≡ refused (getD (2 ∷ 4 ∷ 5 ∷ 6 ∷ 7 ∷ []) k 0) L))
+  unfolding analyseRefusal Numbered
+  analyse-at k l = exact-at (2 ∷ 4 ∷ 5 ∷ 6 ∷ 7 ∷ []) (analyseChecks c)
+      (count-only (c .n), (range-only c 20 (20 + 20 * c .n), (order-only c 20, (rate-only c, (load-only c, tt)))))
+      tt k L l
+
+  pub analyse-2 : (analyseRefusal c ≡ refused 2 L) ↔ (Out 1 16 (c .n) × (L ≡ 0))
+  unfolding Silents
+  analyse-2 = Iff·trans (analyse-at 0 (omega arith)) (Iff·trans true-and (count-exact L (c .n)))
+
+  pub analyse-4 : (analyseRefusal c ≡ refused 4 L) ↔ (Silents (countCheck (c .n) ∷ []) × FirstOut (fields c 20 (20 + 20 * c .n)) L)
+  analyse-4 = Iff·trans (analyse-at 1 (omega arith)) (Iff·and Iff·rfl (range-exact L c 20 (20 + 20 * c .n)))
+
+  pub analyse-5 : (analyseRefusal c ≡ refused 5 L) ↔ (Silents (countCheck (c .n) ∷ recordRange c ∷ []) × FirstOver c 20 L)
+  analyse-5 = Iff·trans (analyse-at 2 (omega arith)) (Iff·and Iff·rfl (order-exact L c 20))
+
+  pub analyse-6 : (analyseRefusal c ≡ refused 6 L) ↔ (Silents (chainChecks c) × FirstFast c L)
+  analyse-6 = Iff·trans (analyse-at 3 (omega arith)) (Iff·and Iff·rfl (rate-exact c L))
+
+  pub analyse-7 : (analyseRefusal c ≡ refused 7 L) ↔ (Silents (chainChecks c ++ (rateCheck c ∷ [])) × ((cycleOf c < busyOf c) × (L ≡ 0)))
+  analyse-7 = Iff·trans (analyse-at 4 (omega arith)) (Iff·and Iff·rfl (load-exact c L))
+
+  pub run-8 : (runRefusal c ≡ refused 8 L) ↔ (Silents (analyseChecks c) × FirstShort c L)
+  unfolding runRefusal Numbered
+  run-8 = Iff·trans (exact-at (2 ∷ 4 ∷ 5 ∷ 6 ∷ 7 ∷ 8 ∷ []) (runChecks c)
+      (count-only (c .n), (range-only c 20 (20 + 20 * c .n), (order-only c 20, (rate-only c, (load-only c, (capacity-only c, tt))))))
+      tt 5 L (omega arith)) (Iff·and Iff·rfl (capacity-exact c L))

@@ -1,0 +1,4 @@
+pub mod Nodes
+pub mod Load
+pub mod Sizes
+pub mod Checks

@@ -1,0 +1,90 @@
+-- The analysis of a chain (01, Rates, load, minimum): its queues one by one, and its load.
+--   start q                  what a queue holds at a fresh start: nothing
+--   minimumOf q, namingOf q  its minimum b, and its naming count
+--   capacityOf q, marginOf q the capacity in force, and how much that is above the minimum
+--   sizeBy q x y             one queue's line of the analysis, its consumer having the rate x in y
+--   sizeOf c i               queue i's
+--   noSize, emptyAnalysis    a slot that no queue has, and the analysis of a refused call: all zero
+--   analysisOf c             the whole
+--   sized r c                the answer of a call that makes an analysis: the refusal r, or the analysis where r is silent
+--   sized-refused            a refused answer is all zero but for number and place
+--   size-at                  what the analysis says of queue i
+use mathlib.Core.Path.{_≡_, ap}
+use mathlib.Core.Bool.{cond}
+use Prim.Native.Nat.{ℕ, suc, _<_, _≤_}
+use native.Mathlib.Omega.{arith}
+use lib.Dec.{eqb}
+use lib.ListN.{getD, replicate}
+use lib.IntN.{ℤ, pos}
+use borrow.Author.Tests.{ne-eqb}
+use Rattle.words.specs.Table.{tab, slots, slot-used}
+use Rattle.words.specs.declared.Queue.{Queue}
+use Rattle.chain.specs.Refusals.{fine, Silent}
+use Rattle.chain.specs.Record.{rowOf}
+use Rattle.chain.specs.declared.Refusal.{Refusal}
+use Rattle.chain.specs.declared.Chain.{Chain}
+use Rattle.onequeue.specs.Minimum.{minimum, naming}
+use Rattle.onequeue.specs.Capacity.{capacity, margin}
+use Rattle.sizing.specs.Nodes.{xOf, yOf}
+use Rattle.sizing.specs.Load.{busyIn, busyOf, cycleOf}
+use Rattle.sizing.specs.declared.QueueSize.{QueueSize}
+use Rattle.sizing.specs.declared.Analysis.{Analysis}
+use Rattle.sizing.specs.declared.AnalysisAnswer.{AnalysisAnswer}
+
+-- "every queue starts empty"
+abbrev pub start : Queue → ℕ
+start q = 0
+
+-- "minimum b of a queue", and "the naming count of demand 3"
+abbrev pub minimumOf : Queue → ℕ
+minimumOf q = minimum (start q) (q .produce) (q .threshold) (q .consume)
+
+abbrev pub namingOf : Queue → ℕ
+namingOf q = naming (start q) (q .produce) (q .threshold) (q .consume)
+
+-- "with B=0 the capacity is b"
+abbrev pub capacityOf : Queue → ℕ
+capacityOf q = capacity (q .capacity) (minimumOf q)
+
+-- "margin: B − b, signed; with B=0 the margin is 0"
+abbrev pub marginOf : Queue → ℤ
+marginOf q = margin (capacityOf q) (minimumOf q)
+
+-- one queue's line, with its consumer's rate
+unfoldable pub sizeBy : Queue → ℕ → ℕ → QueueSize
+unfolding minimum naming capacity margin
+sizeBy q x y = record { x = x; y = y; minimum = minimumOf q; by = namingOf q; capacity = capacityOf q; margin = marginOf q }
+
+-- queue i's consumer is N_(i+1)
+abbrev pub sizeOf : Chain → ℕ → QueueSize
+sizeOf c i = sizeBy (rowOf c i) (xOf c (suc i)) (yOf c (suc i))
+
+-- a slot that no queue has
+abbrev pub noSize : QueueSize
+noSize = record { x = 0; y = 0; minimum = 0; by = 0; capacity = 0; margin = pos 0 }
+
+-- "all other results zero"
+abbrev pub emptyAnalysis : Analysis
+emptyAnalysis = record { n = 0; queues = replicate 16 noSize; busy = 0; cycle = 0 }
+
+-- the first n slots are the queues', the others zero
+unfoldable pub analysisOf : Chain → Analysis
+unfolding tab sizeBy xOf yOf busyIn
+analysisOf c = record { n = c .n; queues = slots (sizeOf c) noSize 16 (c .n); busy = busyOf c; cycle = cycleOf c }
+
+-- "a refusal gives number and place, all other results zero"
+unfoldable pub sized : Refusal → Chain → AnalysisAnswer
+unfolding analysisOf
+sized r c = record { number = r .number; place = r .place; analysis = cond (eqb (r .number) 0) (analysisOf c) emptyAnalysis }
+
+pub sized-refused : (r : Refusal) (c : Chain) → (Silent r → ⊥) → record { number = r .number; place = r .place; analysis = emptyAnalysis } ≡ sized r c
+unfolding sized
+sized-refused r c h = simp (ne-eqb _ _ h)
+
+pub sized-fine : {r : Refusal} (c : Chain) → fine ≡ r → record { number = 0; place = 0; analysis = analysisOf c } ≡ sized r c
+unfolding sized
+sized-fine c e = rw (← e)
+
+pub size-at : (c : Chain) (i : ℕ) → c .n ≤ 16 → i < c .n → getD (analysisOf c .queues) i noSize ≡ sizeOf c i
+unfolding analysisOf
+size-at c i few l = slot-used (sizeOf c) noSize 16 (c .n) i noSize (omega arith) l
