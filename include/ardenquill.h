@@ -1,6 +1,6 @@
 /*
- * ardenquill.h - the calls of the library ardenquill for C and C++: reading and writing chain files, and the
- * factory chains.
+ * ardenquill.h - the calls of the library ardenquill for C and C++: reading and writing chain files, the factory
+ * chains, the analysis of a chain and the report on a chain file.
  *
  * A chain has nodes N_0 (the source) to N_n (the sink), n from 1 to 16; queue i leads from N_i to N_(i+1).
  *
@@ -34,6 +34,10 @@ extern "C" {
 /* The bytes that ardenquill_write writes for a chain of n queues, n from 1 to 16. */
 #define ARDENQUILL_PACKED_LENGTH(n) (20 + 24 * (n))
 
+/* Room in bytes that every report fits: 34 for the first line, 67 for each of 16 queues, 27 for the last line. It
+ * counts every number as long as 32 bits can be; no report fills it. */
+#define ARDENQUILL_MAX_REPORT_LENGTH 1133
+
 /* The numbers that a call is refused with, each with what its place says. */
 enum ardenquill_refusal {
     /* The file is shorter than 20 or longer than 4,096 bytes, or its total word is not its length. Place 0. */
@@ -48,6 +52,10 @@ enum ardenquill_refusal {
     ARDENQUILL_BAD_FIELD = 4,
     /* A queue's consume is above its threshold. Place: the byte offset of that word in the file. */
     ARDENQUILL_BAD_CONSUME = 5,
+    /* An x or a y of a node's rate is above 4,294,967,295. Place: the lowest such node, i for N_i. */
+    ARDENQUILL_RATE_TOO_LARGE = 6,
+    /* The nodes have more work in a cycle than it has ticks: the exact sum, busy, is above cycle. Place 0. */
+    ARDENQUILL_OVERLOADED = 7,
     /* The out handed in is shorter than what would be written. Place: the bytes needed. */
     ARDENQUILL_NO_ROOM = 10,
     /* There is no factory chain of that number. Place: the number asked. */
@@ -77,12 +85,47 @@ struct ardenquill_chain {
     uint32_t work[ARDENQUILL_MAX_QUEUES];
 };
 
+/* What the analysis says of one queue. */
+struct ardenquill_queue_size {
+    /* The rate of the queue's consumer: x firings in y ticks. The two may have a common divisor. */
+    uint32_t x, y;
+    /* The minimum capacity: the largest multiple of gcd(produce, consume) below threshold, plus produce. It is the
+     * most that the queue ever holds where no node fires while the node after it may fire. */
+    uint32_t minimum;
+    /* The naming count: (threshold - consume) / produce rounded up, plus consume / gcd(produce, consume). Once the
+     * producer has fired so many times the queue has held minimum or more, in whatever order the nodes fired. */
+    uint32_t by;
+    /* The capacity in force: the queue's capacity, or minimum where that is 0. */
+    uint32_t capacity;
+    /* capacity less minimum; negative where the queue has too little room. */
+    int32_t margin;
+};
+
+/* What the analysis says of a chain. */
+struct ardenquill_analysis {
+    /* The number of queues. */
+    uint32_t n;
+    /* Queue i in slot i; the slots past n are zero. */
+    struct ardenquill_queue_size queues[ARDENQUILL_MAX_QUEUES];
+    /* The ticks of work that all nodes together have in a cycle, and the ticks of a cycle, which are the sink's y.
+     * busy is not above cycle. */
+    uint32_t busy, cycle;
+};
+
 /* The answer of a call that gives a chain. */
 struct ardenquill_chain_answer {
     /* The refusal and its place; both 0 when the call was not refused. */
     uint32_t number, place;
     /* The chain; all zero when the call was refused. */
     struct ardenquill_chain chain;
+};
+
+/* The answer of a call that gives an analysis. */
+struct ardenquill_analysis_answer {
+    /* The refusal and its place; both 0 when the call was not refused. */
+    uint32_t number, place;
+    /* The analysis; all zero when the call was refused. */
+    struct ardenquill_analysis analysis;
 };
 
 /* The answer of a call that writes bytes. */
@@ -107,6 +150,24 @@ struct ardenquill_length_answer ardenquill_write(struct ardenquill_chain chain, 
 /* Gives a chain that is fixed in the product: 0 Feed, 1 Permeate, 2 Flush. Refuses every other number with 14.
  * Writes nothing. */
 struct ardenquill_chain_answer ardenquill_factory(uint32_t number);
+
+/* Gives the analysis of a chain. Refuses with 2, 4, 5, 6, 7, in this order; the places of 4 and 5 are offsets in the
+ * packed file. A capacity below the minimum is no refusal: it gives a negative margin. Writes nothing. */
+struct ardenquill_analysis_answer ardenquill_analyse(struct ardenquill_chain chain);
+
+/* Writes the report on a chain file to the front of out, gives its length, and leaves all bytes of out behind it as
+ * they were. The report is decimal text without a final zero byte, each line ended by one line feed:
+ *     queue,x,y,minimum,capacity,margin
+ * then a line for each queue with its number and its values of those names, then a line with the word busy and the
+ * values of busy and cycle. For the factory chain Feed, whole:
+ *     queue,x,y,minimum,capacity,margin
+ *     0,4,30,10,10,0
+ *     busy,8,30
+ * Refuses with 1, 2, 3, 4, 5, 6, 7, 10, in this order, and then leaves all of out as it was; the places of 4 and 5
+ * are offsets in the file handed in, and the place of 10 is the length of the whole report. Room of exactly that
+ * length is enough, and ARDENQUILL_MAX_REPORT_LENGTH always is. */
+struct ardenquill_length_answer ardenquill_report(const uint8_t *file, size_t file_length, uint8_t *out,
+                                                  size_t out_length);
 
 #ifdef __cplusplus
 }

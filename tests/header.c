@@ -1,5 +1,5 @@
-/* Checks that the library and include/ardenquill.h agree: the layout of every struct, and what the three calls
- * give and write when they are called from C or C++. */
+/* Checks that the library and include/ardenquill.h agree: the layout of every struct, and what the calls give and
+ * write when they are called from C or C++. */
 #include <stdarg.h>
 #include <stdio.h>
 #include <string.h>
@@ -7,25 +7,41 @@
 #include "ardenquill.h"
 
 /* Every struct's size and every field's offset, in bytes. */
-#define LAYOUT(SIZE, OFFSET)                     \
-    SIZE(ardenquill_queue, 20)                   \
-    OFFSET(ardenquill_queue, produce, 0)         \
-    OFFSET(ardenquill_queue, threshold, 4)       \
-    OFFSET(ardenquill_queue, consume, 8)         \
-    OFFSET(ardenquill_queue, capacity, 12)       \
-    OFFSET(ardenquill_queue, reserved, 16)       \
-    SIZE(ardenquill_chain, 392)                  \
-    OFFSET(ardenquill_chain, n, 0)               \
-    OFFSET(ardenquill_chain, period, 4)          \
-    OFFSET(ardenquill_chain, queues, 8)          \
-    OFFSET(ardenquill_chain, work, 328)          \
-    SIZE(ardenquill_chain_answer, 400)           \
-    OFFSET(ardenquill_chain_answer, number, 0)   \
-    OFFSET(ardenquill_chain_answer, place, 4)    \
-    OFFSET(ardenquill_chain_answer, chain, 8)    \
-    SIZE(ardenquill_length_answer, 16)           \
-    OFFSET(ardenquill_length_answer, number, 0)  \
-    OFFSET(ardenquill_length_answer, place, 4)   \
+#define LAYOUT(SIZE, OFFSET)                          \
+    SIZE(ardenquill_queue, 20)                        \
+    OFFSET(ardenquill_queue, produce, 0)              \
+    OFFSET(ardenquill_queue, threshold, 4)            \
+    OFFSET(ardenquill_queue, consume, 8)              \
+    OFFSET(ardenquill_queue, capacity, 12)            \
+    OFFSET(ardenquill_queue, reserved, 16)            \
+    SIZE(ardenquill_chain, 392)                       \
+    OFFSET(ardenquill_chain, n, 0)                    \
+    OFFSET(ardenquill_chain, period, 4)               \
+    OFFSET(ardenquill_chain, queues, 8)               \
+    OFFSET(ardenquill_chain, work, 328)               \
+    SIZE(ardenquill_queue_size, 24)                   \
+    OFFSET(ardenquill_queue_size, x, 0)               \
+    OFFSET(ardenquill_queue_size, y, 4)               \
+    OFFSET(ardenquill_queue_size, minimum, 8)         \
+    OFFSET(ardenquill_queue_size, by, 12)             \
+    OFFSET(ardenquill_queue_size, capacity, 16)       \
+    OFFSET(ardenquill_queue_size, margin, 20)         \
+    SIZE(ardenquill_analysis, 396)                    \
+    OFFSET(ardenquill_analysis, n, 0)                 \
+    OFFSET(ardenquill_analysis, queues, 4)            \
+    OFFSET(ardenquill_analysis, busy, 388)            \
+    OFFSET(ardenquill_analysis, cycle, 392)           \
+    SIZE(ardenquill_chain_answer, 400)                \
+    OFFSET(ardenquill_chain_answer, number, 0)        \
+    OFFSET(ardenquill_chain_answer, place, 4)         \
+    OFFSET(ardenquill_chain_answer, chain, 8)         \
+    SIZE(ardenquill_analysis_answer, 404)             \
+    OFFSET(ardenquill_analysis_answer, number, 0)     \
+    OFFSET(ardenquill_analysis_answer, place, 4)      \
+    OFFSET(ardenquill_analysis_answer, analysis, 8)   \
+    SIZE(ardenquill_length_answer, 16)                \
+    OFFSET(ardenquill_length_answer, number, 0)       \
+    OFFSET(ardenquill_length_answer, place, 4)        \
     OFFSET(ardenquill_length_answer, length, 8)
 
 /* Each as a check that is counted. */
@@ -36,18 +52,83 @@
 /* Room for the longest packed file and for bytes behind it that must stay as they were. */
 #define ROOM (ARDENQUILL_PACKED_LENGTH(ARDENQUILL_MAX_QUEUES) + 16)
 
+/* The same for the longest report. */
+#define REPORT_ROOM (ARDENQUILL_MAX_REPORT_LENGTH + 16)
+
 /* What every byte of a buffer is before a call. */
 #define UNTOUCHED 0xa5
 
-/* A chain of up to two queues in short: n, period, queue rows in the order of their fields, execution times. */
+/* A chain of up to four queues in short: n, period, queue rows in the order of their fields, execution times. */
 struct short_chain {
-    uint32_t n, period, rows[2][5], work[2];
+    uint32_t n, period, rows[4][5], work[4];
 };
 
 /* The factory chains. */
-static const struct short_chain feed = {1, 10, {{4, 7, 3, 0, 0}, {0, 0, 0, 0, 0}}, {2, 0}};
+static const struct short_chain feed = {1, 10, {{4, 7, 3, 0, 0}}, {2}};
 static const struct short_chain permeate = {2, 5, {{4, 7, 3, 0, 0}, {3, 4, 2, 0, 0}}, {1, 1}};
 static const struct short_chain flush = {2, 100, {{16, 64, 16, 0, 0}, {1, 8, 8, 0, 0}}, {5, 3}};
+
+/* What the analysis says of them. */
+static const struct ardenquill_analysis feed_sizes = {1, {{4, 30, 10, 4, 10, 0}}, 8, 30};
+static const struct ardenquill_analysis permeate_sizes = {2, {{4, 15, 10, 4, 10, 0}, {6, 15, 6, 3, 6, 0}}, 10, 15};
+static const struct ardenquill_analysis flush_sizes = {2, {{1, 100, 64, 4, 64, 0}, {1, 800, 8, 8, 8, 0}}, 43, 800};
+
+/* The report on Feed, whole. */
+static const char feed_report[] = "queue,x,y,minimum,capacity,margin\n0,4,30,10,10,0\nbusy,8,30\n";
+
+/* Permeate with capacities of its own, one above and one below the minimum. */
+static const struct short_chain roomy = {2, 5, {{4, 7, 3, 12, 0}, {3, 4, 2, 5, 0}}, {1, 1}};
+static const struct ardenquill_analysis roomy_sizes = {2, {{4, 15, 10, 4, 12, 2}, {6, 15, 6, 3, 5, -1}}, 10, 15};
+
+/* The largest and the smallest minimum, each with the capacity that is furthest from it. */
+static const struct short_chain widest = {
+    2, 1000000, {{65535, 65535, 1, 1, 0}, {1, 1, 1, 1000000, 0}}, {1, 1}};
+static const struct ardenquill_analysis widest_sizes = {
+    2, {{65535, 1000000, 131069, 2, 1, -131068}, {65535, 1000000, 1, 1, 1000000, 999999}}, 131070, 1000000};
+
+/* Work in every tick of the cycle, and two ticks more than it has. */
+static const struct short_chain full = {2, 10, {{4, 7, 3, 0, 0}, {3, 4, 2, 0, 0}}, {3, 3}};
+static const struct ardenquill_analysis full_sizes = {2, {{4, 30, 10, 4, 10, 0}, {6, 30, 6, 3, 6, 0}}, 30, 30};
+static const struct short_chain overfull = {2, 10, {{4, 7, 3, 0, 0}, {3, 4, 2, 0, 0}}, {2, 4}};
+
+/* Overloaded chains whose busy looks small in too few bits: it is 2^32, and 3,714,625,539 above a multiple of 2^64
+ * with a cycle of 4,288,678,063. */
+static const struct short_chain past_32_bits = {1, 1, {{32768, 1, 1, 0, 0}}, {131072}};
+static const struct short_chain past_64_bits = {
+    4, 1, {{65521, 1, 1, 0, 0}, {65519, 1, 1, 0, 0}, {1, 65479, 65479, 0, 0}, {1, 65497, 65497, 0, 0}},
+    {984674, 23055, 1, 1}};
+
+/* A y of 4,294,967,295, of one more, and of many more; an x that passes it at N_3 of a chain that is overloaded
+ * too. */
+static const struct short_chain largest_y = {1, 983055, {{1, 4369, 4369, 0, 0}}, {1}};
+static const struct ardenquill_analysis largest_y_sizes = {
+    1, {{1, 4294967295u, 4369, 4369, 4369, 0}}, 1, 4294967295u};
+static const struct short_chain y_too_large = {1, 524288, {{1, 8192, 8192, 0, 0}}, {1}};
+static const struct short_chain y_far_too_large = {1, 1000000, {{1, 65521, 65521, 0, 0}}, {1}};
+static const struct short_chain x_too_large = {
+    3, 1, {{65535, 1, 1, 0, 0}, {65535, 1, 1, 0, 0}, {65535, 1, 1, 0, 0}}, {1, 1, 1}};
+
+/* What the analysis says of the chain that sixteen() gives. */
+static const struct ardenquill_analysis sixteen_sizes = {
+    16,
+    {{3, 120000, 2200, 8, 3000, 800},
+     {9, 240000, 2626, 10, 3300, 674},
+     {27, 480000, 2958, 11, 3600, 642},
+     {81, 960000, 3399, 12, 3900, 501},
+     {243, 1920000, 3744, 13, 4200, 456},
+     {729, 3840000, 4095, 14, 4095, 0},
+     {2187, 7680000, 4452, 15, 4800, 348},
+     {6561, 15360000, 4815, 16, 5100, 285},
+     {19683, 30720000, 5184, 17, 5400, 216},
+     {59049, 61440000, 5559, 18, 5700, 141},
+     {177147, 122880000, 5940, 19, 6000, 60},
+     {531441, 245760000, 6327, 20, 6300, -27},
+     {1594323, 491520000, 6720, 21, 6600, -120},
+     {4782969, 983040000, 7119, 22, 6900, -219},
+     {14348907, 1966080000, 7524, 23, 7200, -324},
+     {43046721, 3932160000u, 7820, 24, 7500, -320}},
+    1808355498,
+    3932160000u};
 
 /* Feed as a packed file: the header, the queue row, the node row. */
 static const uint32_t feed_file[] = {1, 10, 20, 40, 44, 4, 7, 3, 0, 0, 2};
@@ -77,7 +158,7 @@ static struct ardenquill_chain chain_of(const struct short_chain *from)
     memset(&chain, 0, sizeof chain);
     chain.n = from->n;
     chain.period = from->period;
-    for (int i = 0; i < 2; i++) {
+    for (int i = 0; i < 4; i++) {
         chain.queues[i].produce = from->rows[i][0];
         chain.queues[i].threshold = from->rows[i][1];
         chain.queues[i].consume = from->rows[i][2];
@@ -106,6 +187,23 @@ static struct ardenquill_chain told_apart(void)
     return chain;
 }
 
+/* A chain of 16 queues that the analysis accepts, in which no two queues have a figure in common. */
+static struct ardenquill_chain sixteen(void)
+{
+    struct ardenquill_chain chain;
+    memset(&chain, 0, sizeof chain);
+    chain.n = ARDENQUILL_MAX_QUEUES;
+    chain.period = 60000;
+    for (uint32_t i = 0; i < ARDENQUILL_MAX_QUEUES; i++) {
+        chain.queues[i].produce = 3 * (100 + i);
+        chain.queues[i].threshold = 2000 + 371 * i;
+        chain.queues[i].consume = 2 * (100 + i);
+        chain.queues[i].capacity = i == 5 ? 0 : 3000 + 300 * i;
+        chain.work[i] = 1 + i;
+    }
+    return chain;
+}
+
 /* The little-endian word at a byte offset. */
 static uint32_t word_at(const uint8_t *bytes, size_t at)
 {
@@ -117,6 +215,41 @@ static void put_word(uint8_t *bytes, size_t at, uint32_t word)
 {
     for (int i = 0; i < 4; i++)
         bytes[at + i] = (uint8_t)(word >> 8 * i);
+}
+
+/* Puts the packed file of a chain. Its length. */
+static size_t pack(struct ardenquill_chain chain, uint8_t *file)
+{
+    const size_t nodes = 20 + 20 * chain.n;
+    put_word(file, 0, chain.n);
+    put_word(file, 4, chain.period);
+    put_word(file, 8, 20);
+    put_word(file, 12, (uint32_t)nodes);
+    put_word(file, 16, ARDENQUILL_PACKED_LENGTH(chain.n));
+    for (uint32_t i = 0; i < chain.n; i++) {
+        uint8_t *row = file + 20 + 20 * i;
+        put_word(row, 0, chain.queues[i].produce);
+        put_word(row, 4, chain.queues[i].threshold);
+        put_word(row, 8, chain.queues[i].consume);
+        put_word(row, 12, chain.queues[i].capacity);
+        put_word(row, 16, chain.queues[i].reserved);
+        put_word(file, nodes + 4 * i, chain.work[i]);
+    }
+    return ARDENQUILL_PACKED_LENGTH(chain.n);
+}
+
+/* Puts the text of an analysis as a report has it. Its length. */
+static size_t text_of(const struct ardenquill_analysis *analysis, char *text)
+{
+    int length = sprintf(text, "queue,x,y,minimum,capacity,margin\n");
+    for (uint32_t i = 0; i < analysis->n; i++) {
+        const struct ardenquill_queue_size *queue = &analysis->queues[i];
+        length += sprintf(text + length, "%lu,%lu,%lu,%lu,%lu,%ld\n", (unsigned long)i, (unsigned long)queue->x,
+                          (unsigned long)queue->y, (unsigned long)queue->minimum, (unsigned long)queue->capacity,
+                          (long)queue->margin);
+    }
+    length += sprintf(text + length, "busy,%lu,%lu\n", (unsigned long)analysis->busy, (unsigned long)analysis->cycle);
+    return (size_t)length;
 }
 
 /* Whether all bytes from one offset up to another are as before the call. */
@@ -169,6 +302,80 @@ static void check_length_answer(const char *what, struct ardenquill_length_answe
     check(got.length == length, "%s: length", what);
 }
 
+/* Checks every field of an analysis, the slots past n too. */
+static void check_analysis(const char *what, struct ardenquill_analysis got, struct ardenquill_analysis due)
+{
+    check(got.n == due.n, "%s: n", what);
+    for (int i = 0; i < ARDENQUILL_MAX_QUEUES; i++) {
+        check(got.queues[i].x == due.queues[i].x, "%s: x of queue %d", what, i);
+        check(got.queues[i].y == due.queues[i].y, "%s: y of queue %d", what, i);
+        check(got.queues[i].minimum == due.queues[i].minimum, "%s: minimum of queue %d", what, i);
+        check(got.queues[i].by == due.queues[i].by, "%s: naming count of queue %d", what, i);
+        check(got.queues[i].capacity == due.queues[i].capacity, "%s: capacity of queue %d", what, i);
+        check(got.queues[i].margin == due.queues[i].margin, "%s: margin of queue %d", what, i);
+    }
+    check(got.busy == due.busy, "%s: busy", what);
+    check(got.cycle == due.cycle, "%s: cycle", what);
+}
+
+/* Checks the number and place of an answer and every field of its analysis. */
+static void check_analysis_answer(const char *what, struct ardenquill_analysis_answer got, uint32_t number,
+                                  uint32_t place, struct ardenquill_analysis due)
+{
+    check(got.number == number, "%s: number", what);
+    check(got.place == place, "%s: place", what);
+    check_analysis(what, got.analysis, due);
+}
+
+/* Checks that a chain is refused by the analysis, and that the answer is zero but for number and place. */
+static void check_analysis_refused(const char *what, struct ardenquill_chain chain, uint32_t number, uint32_t place)
+{
+    struct ardenquill_analysis zero;
+    memset(&zero, 0, sizeof zero);
+    check_analysis_answer(what, ardenquill_analyse(chain), number, place, zero);
+}
+
+/* Checks a report that has less room, exact room and ample room, and that the file stays as it is. */
+static void check_report(const char *what, const uint8_t *file, size_t file_length, const char *text, size_t length)
+{
+    char name[96];
+    uint8_t out[REPORT_ROOM], copy[ROOM];
+    memset(out, UNTOUCHED, sizeof out);
+    memcpy(copy, file, file_length);
+    check(length <= ARDENQUILL_MAX_REPORT_LENGTH, "%s: length within the largest", what);
+
+    snprintf(name, sizeof name, "%s reported to nothing", what);
+    check_length_answer(name, ardenquill_report(file, file_length, NULL, 0), ARDENQUILL_NO_ROOM, (uint32_t)length, 0);
+
+    snprintf(name, sizeof name, "%s reported to a byte too little", what);
+    check_length_answer(name, ardenquill_report(file, file_length, out, length - 1), ARDENQUILL_NO_ROOM,
+                        (uint32_t)length, 0);
+    check(untouched(out, 0, sizeof out), "%s: out untouched", name);
+
+    snprintf(name, sizeof name, "%s reported to exact room", what);
+    check_length_answer(name, ardenquill_report(file, file_length, out, length), 0, 0, length);
+    check(memcmp(out, text, length) == 0, "%s: text", name);
+    check(untouched(out, length, sizeof out), "%s: bytes behind untouched", name);
+
+    snprintf(name, sizeof name, "%s reported to ample room", what);
+    memset(out, UNTOUCHED, sizeof out);
+    check_length_answer(name, ardenquill_report(file, file_length, out, sizeof out), 0, 0, length);
+    check(memcmp(out, text, length) == 0, "%s: text", name);
+    check(untouched(out, length, sizeof out), "%s: bytes behind untouched", name);
+
+    check(memcmp(copy, file, file_length) == 0, "%s: file as it was", what);
+}
+
+/* Checks that a file is refused by the report, with room and without, and that the report leaves its room alone. */
+static void check_report_refused(const char *what, const uint8_t *file, size_t length, uint32_t number, uint32_t place)
+{
+    uint8_t out[REPORT_ROOM];
+    memset(out, UNTOUCHED, sizeof out);
+    check_length_answer(what, ardenquill_report(file, length, out, sizeof out), number, place, 0);
+    check(untouched(out, 0, sizeof out), "%s: out untouched", what);
+    check_length_answer(what, ardenquill_report(file, length, NULL, 0), number, place, 0);
+}
+
 /* Checks every word of a packed file against the chain that it was written from. */
 static void check_file(const char *what, const uint8_t *file, struct ardenquill_chain chain)
 {
@@ -219,14 +426,42 @@ static void check_round_trip(const char *what, struct ardenquill_chain chain)
     check_chain_answer(name, ardenquill_read(out, length), 0, 0, chain);
 }
 
-/* Checks that a factory chain is the one of the table, field by field, and that this chain makes the round trip. */
-static void check_factory(const char *what, uint32_t number, const struct short_chain *due)
+/* Checks what the analysis says of a chain, also with garbage in its slots past n, and the report on its file. */
+static void check_sizes(const char *what, struct ardenquill_chain chain, struct ardenquill_analysis due)
+{
+    check_analysis_answer(what, ardenquill_analyse(chain), 0, 0, due);
+
+    uint8_t file[ROOM];
+    char text[REPORT_ROOM], name[64];
+    check_report(what, file, pack(chain, file), text, text_of(&due, text));
+
+    snprintf(name, sizeof name, "%s with garbage past n", what);
+    for (uint32_t i = chain.n; i < ARDENQUILL_MAX_QUEUES; i++) {
+        memset(&chain.queues[i], UNTOUCHED, sizeof chain.queues[i]);
+        memset(&chain.work[i], UNTOUCHED, sizeof chain.work[i]);
+    }
+    check_analysis_answer(name, ardenquill_analyse(chain), 0, 0, due);
+}
+
+/* Checks that a chain is refused by the analysis, and its packed file by the report with the same place. */
+static void check_sizes_refused(const char *what, struct ardenquill_chain chain, uint32_t number, uint32_t place)
+{
+    uint8_t file[ROOM];
+    check_analysis_refused(what, chain, number, place);
+    check_report_refused(what, file, pack(chain, file), number, place);
+}
+
+/* Checks that a factory chain is the one of the table, field by field, that this chain makes the round trip, and
+ * what the analysis says of it. */
+static void check_factory(const char *what, uint32_t number, const struct short_chain *due,
+                          struct ardenquill_analysis sizes)
 {
     check_chain_answer(what, ardenquill_factory(number), 0, 0, chain_of(due));
     check_round_trip(what, chain_of(due));
+    check_sizes(what, chain_of(due), sizes);
 }
 
-/* Checks that Feed's file, with one word changed, is refused. */
+/* Checks that Feed's file, with one word changed, is refused by the reader and by the report. */
 static void check_read_refused(const char *what, size_t at, uint32_t word, uint32_t number, uint32_t place)
 {
     uint8_t file[sizeof feed_file];
@@ -234,21 +469,24 @@ static void check_read_refused(const char *what, size_t at, uint32_t word, uint3
         put_word(file, 4 * i, feed_file[i]);
     put_word(file, at, word);
     check_chain_refused(what, ardenquill_read(file, sizeof file), number, place);
+    check_report_refused(what, file, sizeof file, number, place);
 }
 
-/* Checks that a chain is refused by the writer and that the writer leaves its room alone. */
+/* Checks that a chain is refused by the writer, which leaves its room alone, and by the analysis. */
 static void check_write_refused(const char *what, struct ardenquill_chain chain, uint32_t number, uint32_t place)
 {
     uint8_t out[ROOM];
     memset(out, UNTOUCHED, sizeof out);
     check_length_answer(what, ardenquill_write(chain, out, sizeof out), number, place, 0);
     check(untouched(out, 0, sizeof out), "%s: out untouched", what);
+    check_analysis_refused(what, chain, number, place);
 }
 
 /* Checks each number that the reader refuses with. */
 static void check_read_refusals(void)
 {
     check_chain_refused("read nothing", ardenquill_read(NULL, 0), ARDENQUILL_BAD_LENGTH, 0);
+    check_report_refused("report on nothing", NULL, 0, ARDENQUILL_BAD_LENGTH, 0);
     check_read_refused("read total word 43", 16, 43, ARDENQUILL_BAD_LENGTH, 0);
     check_read_refused("read n 17", 0, 17, ARDENQUILL_BAD_COUNT, 0);
     check_read_refused("read queue table at 16", 8, 16, ARDENQUILL_BAD_TABLE, 8);
@@ -265,12 +503,23 @@ static void check_write_refusals(void)
     struct ardenquill_chain chain = chain_of(&feed);
     chain.n = 0;
     check_write_refused("write n 0", chain, ARDENQUILL_BAD_COUNT, 0);
+    chain.n = 17;
+    check_write_refused("write n 17", chain, ARDENQUILL_BAD_COUNT, 0);
+    memset(&chain, 0xff, sizeof chain);
+    check_write_refused("write garbage", chain, ARDENQUILL_BAD_COUNT, 0);
+    chain.n = ARDENQUILL_MAX_QUEUES;
+    check_write_refused("write garbage of 16 queues", chain, ARDENQUILL_BAD_FIELD, 4);
     chain = chain_of(&feed);
     chain.queues[0].reserved = 1;
     check_write_refused("write reserved 1", chain, ARDENQUILL_BAD_FIELD, 36);
     chain = chain_of(&permeate);
     chain.queues[1].consume = 5;
     check_write_refused("write consume above threshold", chain, ARDENQUILL_BAD_CONSUME, 48);
+    chain.work[1] = 0;
+    check_write_refused("write work 0, consume above threshold", chain, ARDENQUILL_BAD_FIELD, 64);
+    chain = told_apart();
+    chain.queues[15].consume = chain.queues[15].threshold + 1;
+    check_write_refused("write consume above threshold, y too large", chain, ARDENQUILL_BAD_CONSUME, 328);
 }
 
 /* Checks the numbers behind the last factory chain. */
@@ -280,16 +529,111 @@ static void check_factory_refusals(void)
     check_chain_refused("factory 4294967295", ardenquill_factory(UINT32_MAX), ARDENQUILL_NO_FACTORY_CHAIN, UINT32_MAX);
 }
 
+/* Checks each number that the analysis refuses with after those of the writer. */
+static void check_analysis_refusals(void)
+{
+    check_sizes_refused("y one too large", chain_of(&y_too_large), ARDENQUILL_RATE_TOO_LARGE, 1);
+    check_sizes_refused("y far too large", chain_of(&y_far_too_large), ARDENQUILL_RATE_TOO_LARGE, 1);
+    check_sizes_refused("y too large at the fourth node", told_apart(), ARDENQUILL_RATE_TOO_LARGE, 4);
+    check_sizes_refused("x too large at the third node", chain_of(&x_too_large), ARDENQUILL_RATE_TOO_LARGE, 3);
+    check_sizes_refused("two ticks too much work", chain_of(&overfull), ARDENQUILL_OVERLOADED, 0);
+    check_sizes_refused("busy past 32 bits", chain_of(&past_32_bits), ARDENQUILL_OVERLOADED, 0);
+    check_sizes_refused("busy past 64 bits", chain_of(&past_64_bits), ARDENQUILL_OVERLOADED, 0);
+}
+
+/* Checks Feed with consume at the threshold, and one above it. */
+static void check_consume_limit(void)
+{
+    const struct ardenquill_analysis sizes = {1, {{4, 70, 10, 7, 10, 0}}, 8, 70};
+    struct ardenquill_chain chain = chain_of(&feed);
+    chain.queues[0].consume = 7;
+    check_sizes("consume 7 of threshold 7", chain, sizes);
+    chain.queues[0].consume = 8;
+    check_sizes_refused("consume 8 of threshold 7", chain, ARDENQUILL_BAD_CONSUME, 28);
+}
+
+/* Checks the report on Feed's packed file, byte for byte. */
+static void check_feed_report(void)
+{
+    uint8_t file[sizeof feed_file];
+    for (size_t i = 0; i < sizeof feed_file / 4; i++)
+        put_word(file, 4 * i, feed_file[i]);
+    check_report("Feed's file", file, sizeof file, feed_report, sizeof feed_report - 1);
+}
+
+/* Checks a file whose tables stand in the other order behind bytes that are ignored: the report is that of the
+ * packed file, and its places are those of this file. */
+static void check_moved_tables(void)
+{
+    uint8_t file[60];
+    memset(file, UNTOUCHED, sizeof file);
+    const uint32_t header[] = {1, 10, 36, 24, sizeof file};
+    for (size_t i = 0; i < 5; i++)
+        put_word(file, 4 * i, header[i]);
+    put_word(file, 24, feed_file[10]);
+    for (size_t i = 0; i < 5; i++)
+        put_word(file, 36 + 4 * i, feed_file[5 + i]);
+    check_report("moved tables", file, sizeof file, feed_report, sizeof feed_report - 1);
+    put_word(file, 44, 8);
+    check_report_refused("moved tables, consume 8", file, sizeof file, ARDENQUILL_BAD_CONSUME, 44);
+    put_word(file, 24, 0);
+    check_report_refused("moved tables, work 0", file, sizeof file, ARDENQUILL_BAD_FIELD, 24);
+}
+
+/* Checks that the report on a file is what the reader and the analysis say of it. */
+static void check_agreement(const char *what, const uint8_t *file, size_t length)
+{
+    struct ardenquill_chain_answer read = ardenquill_read(file, length);
+    struct ardenquill_analysis_answer analysed = ardenquill_analyse(read.chain);
+    char text[REPORT_ROOM];
+    if (read.number != 0)
+        check_report_refused(what, file, length, read.number, read.place);
+    else if (analysed.number != 0)
+        check_report_refused(what, file, length, analysed.number, analysed.place);
+    else
+        check_report(what, file, length, text, text_of(&analysed.analysis, text));
+}
+
+/* Checks that agreement on a chain's file with each word in turn replaced by values at the edges. */
+static void check_edges(const char *what, struct ardenquill_chain chain)
+{
+    static const uint32_t edges[] = {0,  1,  2,     16,    17,      20,      24,        36,
+                                     40, 64, 65535, 65536, 1000000, 1000001, INT32_MAX, UINT32_MAX};
+    uint8_t file[ROOM];
+    char name[64];
+    const size_t length = pack(chain, file);
+    for (size_t at = 0; at < length; at += 4) {
+        const uint32_t word = word_at(file, at);
+        for (size_t i = 0; i < sizeof edges / sizeof edges[0]; i++) {
+            put_word(file, at, edges[i]);
+            snprintf(name, sizeof name, "%s with %lu at %d", what, (unsigned long)edges[i], (int)at);
+            check_agreement(name, file, length);
+        }
+        put_word(file, at, word);
+    }
+}
+
 int main(void)
 {
     LAYOUT(SIZE_CHECKED, OFFSET_CHECKED)
-    check_factory("factory 0", 0, &feed);
-    check_factory("factory 1", 1, &permeate);
-    check_factory("factory 2", 2, &flush);
+    check_factory("factory 0", 0, &feed, feed_sizes);
+    check_factory("factory 1", 1, &permeate, permeate_sizes);
+    check_factory("factory 2", 2, &flush, flush_sizes);
     check_round_trip("16 queues", told_apart());
     check_read_refusals();
     check_write_refusals();
     check_factory_refusals();
+    check_sizes("own capacities", chain_of(&roomy), roomy_sizes);
+    check_sizes("widest margins", chain_of(&widest), widest_sizes);
+    check_sizes("work in every tick", chain_of(&full), full_sizes);
+    check_sizes("largest y", chain_of(&largest_y), largest_y_sizes);
+    check_sizes("16 sizes", sixteen(), sixteen_sizes);
+    check_analysis_refusals();
+    check_consume_limit();
+    check_feed_report();
+    check_moved_tables();
+    check_edges("Feed", chain_of(&feed));
+    check_edges("Permeate", chain_of(&permeate));
     printf("%d passed, %d failed\n", passed, failed);
     return failed != 0;
 }
