@@ -1,4 +1,5 @@
-/* Checks that the chain files of a directory are the factory chains byte for byte, or writes them there:
+/* Checks that the chain files of a directory are the factory chains, byte for byte and by their analysis, or writes
+ * them there:
  *     chain_files DIR
  *     chain_files --write DIR */
 #include <stdio.h>
@@ -29,11 +30,27 @@ static size_t make(uint32_t number, uint8_t *bytes, size_t room)
     return (size_t)ardenquill_write(made.chain, bytes, room).length;
 }
 
-/* Null if a file has exactly these bytes, else what is wrong. */
-static const char *check_file(const char *directory, const char *name, const uint8_t *bytes, size_t length)
+/* Null if the analysis of a file's chain is that of the factory chain, else what is wrong. No struct of the two
+ * answers has gaps between its fields. */
+static const char *check_analysis(uint32_t number, const uint8_t *file, size_t length)
+{
+    struct ardenquill_chain_answer read = ardenquill_read(file, length);
+    if (read.number != 0)
+        return "is refused by the reader";
+    struct ardenquill_analysis_answer found = ardenquill_analyse(read.chain);
+    struct ardenquill_analysis_answer due = ardenquill_analyse(ardenquill_factory(number).chain);
+    if (found.number != 0)
+        return "is refused by the analysis";
+    if (memcmp(&found, &due, sizeof found) != 0)
+        return "is analysed in another way than the factory chain";
+    return NULL;
+}
+
+/* Null if the file of a factory chain has exactly these bytes and is analysed as that chain is, else what is wrong. */
+static const char *check_file(uint32_t number, const char *directory, const uint8_t *bytes, size_t length)
 {
     uint8_t found[ARDENQUILL_MAX_FILE_LENGTH];
-    FILE *file = open_in(directory, name, "rb");
+    FILE *file = open_in(directory, names[number], "rb");
     if (file == NULL)
         return "can't be opened";
     size_t found_length = fread(found, 1, sizeof found, file);
@@ -43,7 +60,7 @@ static const char *check_file(const char *directory, const char *name, const uin
         return "can't be read";
     if (found_length != length || memcmp(found, bytes, length) != 0)
         return "is not what the library writes";
-    return NULL;
+    return check_analysis(number, found, found_length);
 }
 
 /* Null if these bytes were written to a file, else what is wrong. */
@@ -72,7 +89,7 @@ int main(int count, char **arguments)
         size_t length = make(i, bytes, sizeof bytes);
         const char *wrong = length == 0 ? "is refused by the library"
                             : writes    ? write_file(directory, names[i], bytes, length)
-                                        : check_file(directory, names[i], bytes, length);
+                                        : check_file(i, directory, bytes, length);
         if (wrong != NULL) {
             printf("failed: %s %s\n", names[i], wrong);
             failed++;
