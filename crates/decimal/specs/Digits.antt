@@ -3,8 +3,8 @@
 --   decimal n           the bytes of n's digits, the highest first
 --   decimal-one, -more  its two cases: a number of one digit, and of more
 --   by-digits           what holds of the numbers of one digit, and with one digit more, holds of every number and its text
---   Digit b             b is the byte of a digit
 --   valueOf t           the number that digits in a row stand for
+--   Digits t            each byte of t is a digit
 --   value-of-decimal    the text read back is the number
 --   decimal-digits      each of its bytes is a digit
 --   no-leading-zero     the first one is not '0' unless the number is 0
@@ -74,7 +74,9 @@ pub decimal-more : (n : ℕ) → 10 ≤ n → decimal n ≡ decimal (n / 10) ++ 
 unfolding decimal
 decimal-more n h = ap (λ (s : List ℕ). s ++ (lastDigit n ∷ [])) (some n (n / 10) (omega arith) (omega arith))
 
-pub by-digits : (P : ℕ → List ℕ → Type 0) → ((n : ℕ) → n < 10 → P n (lastDigit n ∷ [])) → ((n : ℕ) → 10 ≤ n → P (n / 10) (decimal (n / 10)) → P n (decimal (n / 10) ++ (lastDigit n ∷ [])))
+pub by-digits : (P : ℕ → List ℕ → Type 0)
+    → ((n : ℕ) → n < 10 → P n (lastDigit n ∷ []))
+    → ((n : ℕ) → 10 ≤ n → P (n / 10) (decimal (n / 10)) → P n (decimal (n / 10) ++ (lastDigit n ∷ [])))
     → (n : ℕ) → P n (decimal n)
 by-digits P one more n = upTo (suc n) n (omega arith)
   where
@@ -84,10 +86,6 @@ by-digits P one more n = upTo (suc n) n (omega arith)
         (λ (h : n < 10). rw (decimal-one n h) (one n h))
         (λ (h : 10 ≤ n). rw (decimal-more n h) (more n h (upTo k (n / 10) (omega arith))))
         (below n 10)
-
--- the bytes '0' to '9'
-abbrev pub Digit : ℕ → Type 0
-Digit b = (48 ≤ b) × (b ≤ 57)
 
 -- digits behind a number that was read so far: each one makes it ten times as much, and itself more
 unfoldable pub valueFrom : ℕ → List ℕ → ℕ
@@ -109,13 +107,17 @@ value-of-decimal = by-digits (λ n t. valueOf t ≡ n)
     (λ n h. omega arith)
     (λ n h e. omega (arith, value-last 0 (decimal (n / 10)) (lastDigit n)))
 
-pub decimal-digits : (n i : ℕ) → i < length (decimal n) → Digit (getD (decimal n) i 0)
-decimal-digits = by-digits (λ n t. (i : ℕ) → i < length t → Digit (getD t i 0)) one (λ n h d. more n (decimal (n / 10)) d)
-  where
-    one : (n : ℕ) → n < 10 → (i : ℕ) → i < 1 → Digit (getD (lastDigit n ∷ []) i 0)
-    one n h i l = let e : i ≡ 0 = omega arith in rw e (omega arith, omega arith)
+-- '0' to '9'
+abbrev pub Digits : List ℕ → Type 0
+Digits t = (i : ℕ) → i < length t → (48 ≤ getD t i 0) × (getD t i 0 ≤ 57)
 
-    more : (n : ℕ) (s : List ℕ) → ((i : ℕ) → i < length s → Digit (getD s i 0)) → (i : ℕ) → i < length (s ++ (lastDigit n ∷ [])) → Digit (getD (s ++ (lastDigit n ∷ [])) i 0)
+pub decimal-digits : (n : ℕ) → Digits (decimal n)
+decimal-digits = by-digits (λ n t. Digits t) (λ n h. one n) (λ n h d. more n (decimal (n / 10)) d)
+  where
+    one : (n : ℕ) → Digits (lastDigit n ∷ [])
+    one n i l = let e : i ≡ 0 = omega arith in rw e (omega arith, omega arith)
+
+    more : (n : ℕ) (s : List ℕ) → Digits s → Digits (s ++ (lastDigit n ∷ []))
     more n s d i l = ⊎-elim
         (λ (h : i < length s). rw (List·getD-append s (lastDigit n ∷ []) 0 i h) (d i h))
         (λ (h : length s ≤ i).

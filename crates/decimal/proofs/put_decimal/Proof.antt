@@ -5,7 +5,7 @@ use Prim.Native.Nat.{_+_, _-_, _/_, _≤_}
 use native.Mathlib.Omega.{arith}
 use lib.ListN.{length, length-set}
 use lib.Seq.{sets}
-use Rattle.decimal.specs.Digits.{decimal, decimal-some, decimal-length, decimal-word}
+use Rattle.decimal.specs.Digits.{decimal, decimal-some, decimal-length}
 use Rattle.decimal.proofs.Digits.{put-digit, put-only}
 use Rattle.decimal.proofs.put_decimal.Statement.{statement}
 use Rattle.decimal.proofs.put_decimal.Tie as tie

@@ -25,25 +25,31 @@ loop-holds : tie.Need-loop-holds Inv-loop μ-loop
 loop-holds c = (refl, omega arith, decimal-some _)
 
 add-k : tie.Need-add-k Inv-loop μ-loop
-add-k c = omega (arith, decimal-word (c .before .before .args .n) (c .before .before .fits .n .fits))
+add-k c =
+    let s = c .before .before in
+    omega (arith, decimal-word (s .args .n) (s .fits .n .fits))
 
 mul-power : tie.Need-mul-power Inv-loop μ-loop
 mul-power c = omega arith
 
 loop-less : tie.Need-loop-less Inv-loop μ-loop
-loop-less c = omega (arith, longer (c .before .loop .k) (c .before .loop .power) (c .before .before .args .n) (c .before .loop .inv .0) (c .loop-test .taken))
+loop-less c =
+    let l = c .before .loop in
+    omega (arith, longer (l .k) (l .power) (c .before .before .args .n) (l .inv .0) (c .loop-test .taken))
 
 loop-again : tie.Need-loop-again Inv-loop μ-loop
 loop-again c =
     let l = c .before .loop in
-    let n = c .before .before .args .n in
-    (grown (l .k) (l .power) (l .inv .0), omega arith, omega (arith, longer (l .k) (l .power) n (l .inv .0) (c .loop-test .taken)))
+    let more = longer (l .k) (l .power) (c .before .before .args .n) (l .inv .0) (c .loop-test .taken) in
+    (grown (l .k) (l .power) (l .inv .0), omega arith, omega arith)
 
 returns : tie.Need-returns Inv-loop μ-loop
 returns c =
     let l = c .before .loop in
     let n = c .before .before .args .n in
-    (omega (arith, decimal-short (l .k) n (omega arith) (l .inv .1)), omega (arith, decimal-word n (c .before .before .fits .n .fits)))
+    let short = decimal-short (l .k) n (omega arith) (l .inv .1) in
+    let word = decimal-word n (c .before .before .fits .n .fits) in
+    (omega arith, omega arith)
 
 pub width-spec : {M : Type 1} → statement M
 width-spec =
