@@ -5,6 +5,7 @@ ghost use Rattle.chain.specs.Record.{answered};
 mod checks;
 mod stock;
 
+pub use checks::FINE;
 pub use checks::Faults;
 pub use checks::NO_FAULTS;
 pub use checks::check_chain;

@@ -11,7 +11,7 @@
 --   next-pos, stretch-pos    neither x nor y nor stretch is 0
 --   stretch-below            stretch is at most c
 --   by-parts                 the same numbers by the gcd of p and c, and of x and what that leaves of c
---   Step p c g x             what the code of a step asks
+--   Step q x                 what the code of a step asks
 use mathlib.Core.Path.{_≡_, refl, sym, ap, _∙_}
 use Prim.Native.Nat.{ℕ, _+_, _*_, _/_, _≤_, _<_, _∣_}
 use native.Mathlib.Nat.{le-refl, mul-pos, div-le-self, div-div-eq-div-mul, dvd-trans, dvd-mul-left, dvd-of-mul-dvd-mul-left, le-of-dvd, mul-one, eq-of-mul-eq-mul-left}
@@ -19,6 +19,8 @@ use native.Mathlib.Omega.{arith}
 use Rattle.arith.specs.Division.{floor-unique}
 use Rattle.arith.specs.Gcd.{gcd, gcd-pos-left, gcd-pos-right, gcd-mul-left, gcd-mul-right, gcd-greatest, cofactor-pos}
 use Rattle.arith.specs.Products.{gcd-scale, gcd-product}
+use Rattle.onequeue.specs.Known.{Known}
+use Rattle.onequeue.specs.declared.Row.{Row}
 use Rattle.rates.specs.declared.Rate.{Rate}
 
 -- "g = gcd(p×x_i, c)"
@@ -100,11 +102,9 @@ module _ (p c x : ℕ) (hc : 0 < c) where
           let whole : gcd (k * a) (k * w) ≡ k = gcd-scale a w k ∙ ap (λ (n : ℕ). k * n) one ∙ mul-one k in
           rw whole at (gcd-greatest (k * a) (k * w) w (dvd-of-mul-dvd-mul-left w hg both) (dvd-mul-left w k))
 
--- what the code of a step asks: a queue's numbers in range, g their gcd, and a node before it that fires
-pub record Step (p c g x : ℕ) : Type 0 where
-  pub produce : (1 ≤ p) × (p ≤ 65535)
-  pub consume : (1 ≤ c) × (c ≤ 65535)
-  pub divisor : g ≡ gcd p c
+-- what the code of a step asks: a known queue, and a node before it that fires
+pub record Step (q : Row) (x : ℕ) : Type 0 where
+  pub known : Known q
   pub fires : 0 < x
 
 -- the same numbers by the gcd of p and c, and of x and what that leaves of c
@@ -129,9 +129,9 @@ module _ (p c x : ℕ) (hc : 0 < c) where
       products : (a b g h s t : ℕ) → g * s ≡ a → h * t ≡ b → a * b ≡ g * h * (s * t)
       products a b g h s t ea eb = omega (arith, ap (λ (n : ℕ). n * b) ea, ap (λ (n : ℕ). g * s * n) eb)
 
--- the three numbers by parts, as code has them: g is the gcd of p and c, h that of x and what g leaves of c
-pub rate-by-parts : (p c g x y h : ℕ) → 0 < c → g ≡ gcd p c → h ≡ gcd x (c / g) → record { x = p / g * (x / h); y = c / g / h * y; stretch = c / g / h } ≡ rateAfter p c x y
+-- the three numbers by parts, as code has them: g is the gcd of p and c, w what it leaves of c, h the gcd of x and w
+pub rate-by-parts : (p c g w x y h : ℕ) → 0 < c → g ≡ gcd p c → w ≡ c / g → h ≡ gcd x w → record { x = p / g * (x / h); y = w / h * y; stretch = w / h } ≡ rateAfter p c x y
 unfolding rateAfter
-rate-by-parts p c g x y h hc eg eh =
+rate-by-parts p c g w x y h hc eg ew eh =
     let s : stretch p c x ≡ c / gcd p c / gcd x (rest p c x hc) = stretch-by-parts p c x hc in
-    rw (eh, eg, next-by-parts p c x hc, next-stretch p c x hc y, s)
+    rw (eh, ew, eg, next-by-parts p c x hc, next-stretch p c x hc y, s)

@@ -1,9 +1,10 @@
-// The rate of a node from that of the node before it, and the load so far, over plain numbers. A queue's gcd of produce
-// and consume is handed in, since its minimum needs it too: what is left of consume is then compared with x alone, in 32 bits.
+// The rate of a node from that of the node before it, and the load so far. A queue comes with its gcd and its share, which
+// its minimum and its naming count need too; so the gcd with x is that of the share alone, and every division has 32 bits.
 ghost use mathlib.Core.Path.{_≡_};
 ghost use Prim.Native.Nat.{_+_, _*_};
 ghost use Rattle.rates.specs.Rates.{rateAfter, Step};
 ghost use Rattle.rates.specs.Load.{capped, Small};
+use onequeue::Row;
 
 // The rate of a node, x firings in y ticks, before it is known to fit 32 bits; y is `stretch` times that of the node before.
 pub struct Rate {
@@ -12,16 +13,15 @@ pub struct Rate {
     pub stretch: u32,
 }
 
-// The rate of the node that a queue feeds, where the node before it has the rate x in y; `g` is the queue's gcd.
-pub fn rate_after(produce: u32, consume: u32, g: u32, x: u32, y: u32) -> Rate
-    requires { ⌜ Step produce consume g x ⌝ }
-    ensures { λ r. ⌜ r ≡ rateAfter produce consume x y ⌝ }
+// The rate of the node that a queue feeds, where the node before it has the rate x in y.
+pub fn rate_after(q: Row, x: u32, y: u32) -> Rate
+    requires { ⌜ Step q x ⌝ }
+    ensures { λ r. ⌜ r ≡ rateAfter (q .produce) (q .consume) x y ⌝ }
 {
-    let share = consume / g;
-    let common = arith::gcd(x as u64, share as u64) as u32;
-    let stretch = share / common;
+    let common = arith::gcd(x as u64, q.share as u64) as u32;
+    let stretch = q.share / common;
     Rate {
-        x: ((produce / g) as u64) * ((x / common) as u64),
+        x: ((q.produce / q.g) as u64) * ((x / common) as u64),
         y: (stretch as u64) * (y as u64),
         stretch: stretch,
     }

@@ -32,7 +32,8 @@ use Rattle.chain.specs.declared.Refusal.{Refusal}
 use Rattle.chain.specs.declared.Chain.{Chain}
 use Rattle.sizing.specs.Nodes.{xOf, yOf}
 use Rattle.sizing.specs.Load.{busyIn, busyOf, cycleOf}
-use Rattle.sizing.specs.Sizes.{minimumOf, sized}
+use Rattle.sizing.specs.Sizes.{minimumOf, noSize, sized}
+use Rattle.sizing.specs.declared.Analysis.{Analysis}
 use Rattle.sizing.specs.declared.AnalysisAnswer.{AnalysisAnswer}
 
 -- the largest x and the largest y of a rate
@@ -61,6 +62,11 @@ unfoldable pub capacityCheck : Chain → Refusal
 unfolding first tab
 capacityCheck c = first (tab (c .n) (capacityTest c))
 
+-- 8 as the analysis shows it: the lowest queue whose capacity in force is below its minimum
+unfoldable pub shortIn : Analysis → Refusal
+unfolding first tab
+shortIn a = first (tab (a .n) (λ i. test 8 i (ltb (getD (a .queues) i noSize .capacity) (getD (a .queues) i noSize .minimum))))
+
 -- "analysis checks also 6, 7"
 abbrev pub sizeChecks : Chain → List Refusal
 sizeChecks c = rateCheck c ∷ loadCheck c ∷ []
@@ -70,7 +76,7 @@ analyseChecks c = chainChecks c ++ sizeChecks c
 
 -- 8 is of "runs and deadlines only"
 abbrev pub runChecks : Chain → List Refusal
-runChecks c = chainChecks c ++ (rateCheck c ∷ loadCheck c ∷ capacityCheck c ∷ [])
+runChecks c = analyseChecks c ++ (capacityCheck c ∷ [])
 
 unfoldable pub analyseRefusal : Chain → Refusal
 unfolding first rangeCheck orderCheck rateCheck busyIn

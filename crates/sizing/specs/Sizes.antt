@@ -2,16 +2,19 @@
 --   start q                  what a queue holds at a fresh start: nothing
 --   minimumOf q, namingOf q  its minimum b, and its naming count
 --   capacityOf q, marginOf q the capacity in force, and how much that is above the minimum
+--   rowBy q, Parted, row-known
+--                            the numbers that the queue's code is handed
 --   sizeBy q x y             one queue's line of the analysis, its consumer having the rate x in y
 --   sizeOf c i               queue i's
 --   noSize, emptyAnalysis    a slot that no queue has, and the analysis of a refused call: all zero
 --   analysisOf c             the whole
 --   sized r c                the answer of a call that makes an analysis: the refusal r, or the analysis where r is silent
---   sized-refused            a refused answer is all zero but for number and place
+--   refusedWith N L          the answer that is all zero but for number and place, as each refused one is (sized-refused)
 --   size-at                  what the analysis says of queue i
-use mathlib.Core.Path.{_≡_, ap}
+use mathlib.Core.Path.{_≡_, refl}
 use mathlib.Core.Bool.{cond}
-use Prim.Native.Nat.{ℕ, suc, _<_, _≤_}
+use Prim.Native.Nat.{ℕ, suc, _/_, _<_, _≤_}
+use native.Mathlib.Nat.{le-trans}
 use native.Mathlib.Omega.{arith}
 use lib.Dec.{eqb}
 use lib.ListN.{getD, replicate}
@@ -21,10 +24,14 @@ use Rattle.words.specs.Table.{tab, slots, slot-used}
 use Rattle.words.specs.declared.Queue.{Queue}
 use Rattle.chain.specs.Refusals.{fine, Silent}
 use Rattle.chain.specs.Record.{rowOf}
+use Rattle.chain.specs.Sound.{SoundRow}
 use Rattle.chain.specs.declared.Refusal.{Refusal}
 use Rattle.chain.specs.declared.Chain.{Chain}
-use Rattle.onequeue.specs.Minimum.{minimum, naming}
-use Rattle.onequeue.specs.Capacity.{capacity, margin}
+use Rattle.arith.specs.Gcd.{gcd}
+use Rattle.onequeue.specs.Known.{Known}
+use Rattle.onequeue.specs.Minimum.{minimum, naming, minimum-fits, naming-fits}
+use Rattle.onequeue.specs.Capacity.{capacity, margin, capacity-fits}
+use Rattle.onequeue.specs.declared.Row.{Row}
 use Rattle.sizing.specs.Nodes.{xOf, yOf}
 use Rattle.sizing.specs.Load.{busyIn, busyOf, cycleOf}
 use Rattle.sizing.specs.declared.QueueSize.{QueueSize}
@@ -49,6 +56,20 @@ capacityOf q = capacity (q .capacity) (minimumOf q)
 -- "margin: B − b, signed; with B=0 the margin is 0"
 abbrev pub marginOf : Queue → ℤ
 marginOf q = margin (capacityOf q) (minimumOf q)
+
+-- the numbers that the queue's code is handed: with the gcd of produce and consume, and what it leaves of consume
+unfoldable pub rowBy : Queue → Row
+unfolding gcd
+rowBy q = record { produce = q .produce; threshold = q .threshold; consume = q .consume; g = gcd (q .produce) (q .consume); share = q .consume / gcd (q .produce) (q .consume) }
+
+pub row-known : {q : Queue} → SoundRow q → Known (rowBy q)
+unfolding rowBy
+row-known s = record { some = s .produce .0; most = s .produce .1; taken = s .consume .0; order = s .order; high = s .threshold .1; divisor = refl; quotient = refl }
+
+-- a sound queue and its numbers, as the code of its line asks
+pub record Parted (q : Queue) (row : Row) : Type 0 where
+  pub sound : SoundRow q
+  pub parts : row ≡ rowBy q
 
 -- one queue's line, with its consumer's rate
 unfoldable pub sizeBy : Queue → ℕ → ℕ → QueueSize
@@ -77,7 +98,11 @@ unfoldable pub sized : Refusal → Chain → AnalysisAnswer
 unfolding analysisOf
 sized r c = record { number = r .number; place = r .place; analysis = cond (eqb (r .number) 0) (analysisOf c) emptyAnalysis }
 
-pub sized-refused : (r : Refusal) (c : Chain) → (Silent r → ⊥) → record { number = r .number; place = r .place; analysis = emptyAnalysis } ≡ sized r c
+-- all zero but for number and place
+abbrev pub refusedWith : ℕ → ℕ → AnalysisAnswer
+refusedWith N L = record { number = N; place = L; analysis = emptyAnalysis }
+
+pub sized-refused : (r : Refusal) (c : Chain) → (Silent r → ⊥) → refusedWith (r .number) (r .place) ≡ sized r c
 unfolding sized
 sized-refused r c h = simp (ne-eqb _ _ h)
 
@@ -88,3 +113,13 @@ sized-fine c e = rw (← e)
 pub size-at : (c : Chain) (i : ℕ) → c .n ≤ 16 → i < c .n → getD (analysisOf c .queues) i noSize ≡ sizeOf c i
 unfolding analysisOf
 size-at c i few l = slot-used (sizeOf c) noSize 16 (c .n) i noSize (omega arith) l
+
+-- each number of a sound queue's line fits 32 bits, the margin with its sign
+pub minimum-most : {q : Queue} → SoundRow q → minimumOf q ≤ 131069
+minimum-most {q} s = minimum-fits 0 (q .produce) (q .threshold) (q .consume) (s .threshold .0) (s .produce .0) (s .threshold .1) (s .produce .1)
+
+pub naming-most : {q : Queue} → SoundRow q → namingOf q ≤ 65535
+naming-most {q} s = le-trans (naming-fits 0 (q .produce) (q .threshold) (q .consume) (s .produce .0) (s .order)) (s .threshold .1)
+
+pub capacity-most : {q : Queue} → SoundRow q → capacityOf q ≤ 1000000
+capacity-most {q} s = capacity-fits (q .capacity) (minimumOf q) 1000000 (s .capacity) (le-trans (minimum-most s) (omega arith))

@@ -1,5 +1,17 @@
-// The analysis of a chain: rates, load, and for each queue its minimum, naming count, capacity and margin.
-// A queue as the analysis has it, with the rate of its consumer: x firings in y ticks; `by` is the naming count.
+// The analysis of a chain: the rate of each node, the load, and for each queue its minimum, naming count, capacity and
+// margin. One walk over the queues makes it all; every run and deadline question starts with `checked_for_run`.
+ghost use mathlib.Core.Path.{_≡_};
+ghost use Rattle.chain.specs.Refusals.{first};
+ghost use Rattle.chain.specs.Sound.{Sound, SoundRow};
+ghost use Rattle.chain.specs.Faults.{Few};
+ghost use Rattle.sizing.specs.Sizes.{sizeBy, sized, refusedWith, rowBy, Parted};
+ghost use Rattle.sizing.specs.Checks.{sizeChecks, analyseAnswer, runAnswer, shortIn};
+use chain::Chain;
+use chain::Queue;
+use chain::Refusal;
+use onequeue::Row;
+
+// A queue as the analysis has it: its consumer fires x times in y ticks; `by` is the naming count.
 #[repr(C)]
 pub struct QueueSize {
     pub x: u32,
@@ -25,4 +37,151 @@ pub struct AnalysisAnswer {
     pub number: u32,
     pub place: u32,
     pub analysis: Analysis,
+}
+
+// The slot of no queue.
+const NO_SIZE: QueueSize = QueueSize {
+    x: 0,
+    y: 0,
+    minimum: 0,
+    by: 0,
+    capacity: 0,
+    margin: 0,
+};
+
+// The analysis of a refused call.
+const NOTHING: Analysis = Analysis {
+    n: 0,
+    queues: [NO_SIZE; 16],
+    busy: 0,
+    cycle: 0,
+};
+
+// The largest x and the largest y of a rate.
+const LIMIT: u64 = 4294967295;
+
+// The analysis of a chain, or the first of 2, 4, 5, 6 and 7 that refuses it.
+pub fn analyse(chain: Chain) -> AnalysisAnswer
+    ensures { λ r. ⌜ r ≡ analyseAnswer chain ⌝ }
+{
+    let wrong = chain::check_chain(chain);
+    if wrong.number != 0 {
+        return refused(wrong.number, wrong.place);
+    }
+    sized(chain)
+}
+
+// The analysis of a chain that is to be run, or the first of 2, 4, 5, 6, 7 and 8 that refuses it.
+pub fn checked_for_run(chain: Chain) -> AnalysisAnswer
+    ensures { λ r. ⌜ r ≡ runAnswer chain ⌝ }
+{
+    let answer = analyse(chain);
+    if answer.number != 0 {
+        return answer;
+    }
+    let short = short_queue(answer.analysis);
+    if short.number != 0 {
+        return refused(short.number, short.place);
+    }
+    answer
+}
+
+// The analysis of a chain that 2, 4 and 5 have passed, or the first of 6 and 7 that refuses it.
+pub fn sized(chain: Chain) -> AnalysisAnswer
+    requires { ⌜ Sound chain ⌝ }
+    ensures { λ r. ⌜ r ≡ sized (first (sizeChecks chain)) chain ⌝ }
+{
+    let n = chain.n as usize;
+    let mut analysis = NOTHING;
+    analysis.n = chain.n;
+    let mut x = 1;
+    let mut y = chain.period;
+    let mut busy = 0;
+    let mut i = 0;
+    while i < n {
+        let q = chain.queues[i];
+        let row = parted(q);
+        let rate = rates::rate_after(row, x, y);
+        if LIMIT < rate.x || LIMIT < rate.y {
+            return refused(6, (i + 1) as u32);
+        }
+        x = rate.x as u32;
+        y = rate.y as u32;
+        busy = rates::busy_after(busy, rate.stretch, chain.work[i], x, y);
+        analysis.queues[i] = size_of(q, row, x, y);
+        i += 1;
+    }
+    if (y as u64) < busy {
+        return refused(7, 0);
+    }
+    analysis.busy = busy as u32;
+    analysis.cycle = y;
+    AnalysisAnswer {
+        number: 0,
+        place: 0,
+        analysis: analysis,
+    }
+}
+
+// The answer of a refused call: all zero but for number and place.
+fn refused(number: u32, place: u32) -> AnalysisAnswer
+    ensures { λ r. ⌜ r ≡ refusedWith number place ⌝ }
+{
+    AnalysisAnswer {
+        number: number,
+        place: place,
+        analysis: NOTHING,
+    }
+}
+
+// 8: the lowest queue whose capacity is below its minimum.
+fn short_queue(analysis: Analysis) -> Refusal
+    requires { ⌜ Few (analysis .n) ⌝ }
+    ensures { λ r. ⌜ r ≡ shortIn analysis ⌝ }
+{
+    let n = analysis.n as usize;
+    let mut i = 0;
+    while i < n {
+        let q = analysis.queues[i];
+        if q.capacity < q.minimum {
+            return Refusal {
+                number: 8,
+                place: i as u32,
+            };
+        }
+        i += 1;
+    }
+    chain::FINE
+}
+
+// A queue's numbers with the gcd of produce and consume, and what it leaves of consume.
+fn parted(q: Queue) -> Row
+    requires { ⌜ SoundRow q ⌝ }
+    ensures { λ r. ⌜ r ≡ rowBy q ⌝ }
+{
+    let g = arith::gcd(q.produce as u64, q.consume as u64) as u32;
+    Row {
+        produce: q.produce,
+        threshold: q.threshold,
+        consume: q.consume,
+        g: g,
+        share: q.consume / g,
+    }
+}
+
+// A queue's line of the analysis, from its numbers and its consumer's rate.
+fn size_of(q: Queue, row: Row, x: u32, y: u32) -> QueueSize
+    requires { ⌜ Parted q row ⌝ }
+    ensures { λ r. ⌜ r ≡ sizeBy q x y ⌝ }
+{
+    let minimum = onequeue::minimum(row);
+    let capacity = onequeue::capacity(q.capacity, minimum);
+    QueueSize {
+        x: x,
+        y: y,
+        minimum: minimum,
+        by: onequeue::naming(row),
+        capacity: capacity,
+        margin: onequeue::margin(capacity, minimum),
+    }
 }

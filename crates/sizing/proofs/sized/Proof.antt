@@ -1,0 +1,150 @@
+-- `sizing::sized` meets its contract: before queue i its rates, its load and the slots before it are known.
+use Prim.Native.Nat.{_-_}
+use native.Mathlib.Omega.{arith}
+use borrow.Author.Needs.{needs}
+use Rattle.sizing.proofs.Walk.{Walked, walk-none, walk-more, walk-fast, walk-over, walk-end}
+use Rattle.sizing.proofs.sized.Statement.{statement}
+use Rattle.sizing.proofs.sized.Tie as tie
+
+abbrev Inv-loop : tie.InvT-loop
+Inv-loop chain n analysis₀ x₀ y₀ busy₀ i₀ analysis x y busy i = Walked chain i x y busy analysis
+
+abbrev μ-loop : tie.MeasureT-loop
+μ-loop chain n analysis₀ x₀ y₀ busy₀ i₀ analysis x y busy i = n - i
+
+-- src/lib.rt:94:13
+cast-n : tie.Need-cast-n Inv-loop μ-loop
+cast-n c = search needs
+
+-- src/lib.rt:101:5
+loop-holds : tie.Need-loop-holds Inv-loop μ-loop
+loop-holds c = walk-none (c .args .t1) (c .pre)
+
+-- src/lib.rt:102:17
+mul-q : tie.Need-mul-q Inv-loop μ-loop
+mul-q c = search needs
+
+-- src/lib.rt:102:17
+element-copy-out-q : tie.Need-element-copy-out-q Inv-loop μ-loop
+element-copy-out-q c = search needs
+
+-- src/lib.rt:103:13
+parted-requires : tie.Need-parted-requires Inv-loop μ-loop
+parted-requires c κs = ?
+
+-- src/lib.rt:104:13
+rate-after-requires : tie.Need-rate-after-requires Inv-loop μ-loop
+rate-after-requires c κs = ?
+
+-- src/lib.rt:106:32
+add-refused : tie.Need-add-refused Inv-loop μ-loop
+add-refused c = search needs
+
+-- src/lib.rt:106:31
+cast-refused : tie.Need-cast-refused Inv-loop μ-loop
+cast-refused c = search needs
+
+-- src/lib.rt:106:13
+refused-requires : tie.Need-refused-requires Inv-loop μ-loop
+refused-requires c κs = search needs
+
+-- src/lib.rt:106:13
+returns : tie.Need-returns Inv-loop μ-loop
+returns c = ?
+
+-- src/lib.rt:108:13
+cast-x : tie.Need-cast-x Inv-loop μ-loop
+cast-x c = ?
+
+-- src/lib.rt:109:13
+cast-y : tie.Need-cast-y Inv-loop μ-loop
+cast-y c = ?
+
+-- src/lib.rt:110:54
+mul-busy-after : tie.Need-mul-busy-after Inv-loop μ-loop
+mul-busy-after c = search needs
+
+-- src/lib.rt:110:54
+element-copy-out-busy-after : tie.Need-element-copy-out-busy-after Inv-loop μ-loop
+element-copy-out-busy-after c = search needs
+
+-- src/lib.rt:110:9
+busy-after-requires : tie.Need-busy-after-requires Inv-loop μ-loop
+busy-after-requires c κs = ?
+
+-- src/lib.rt:111:30
+size-of-requires : tie.Need-size-of-requires Inv-loop μ-loop
+size-of-requires c κs = ?
+
+-- src/lib.rt:111:9
+mul-t17 : tie.Need-mul-t17 Inv-loop μ-loop
+mul-t17 c = search needs
+
+-- src/lib.rt:111:9
+element-set-from-analysis : tie.Need-element-set-from-analysis Inv-loop μ-loop
+element-set-from-analysis c = search needs
+
+-- src/lib.rt:112:9
+add-i : tie.Need-add-i Inv-loop μ-loop
+add-i c = search needs
+
+-- src/lib.rt:101:5
+loop-less : tie.Need-loop-less Inv-loop μ-loop
+loop-less c = search needs
+
+-- src/lib.rt:101:5
+loop-again : tie.Need-loop-again Inv-loop μ-loop
+loop-again c = ?
+
+-- src/lib.rt:114:9
+cast-if3 : tie.Need-cast-if3 Inv-loop μ-loop
+cast-if3 c = search needs
+
+-- src/lib.rt:115:9
+refused-requires-2 : tie.Need-refused-requires-2 Inv-loop μ-loop
+refused-requires-2 c κs = search needs
+
+-- src/lib.rt:115:9
+returns-2 : tie.Need-returns-2 Inv-loop μ-loop
+returns-2 c = ?
+
+-- src/lib.rt:117:21
+cast-analysis : tie.Need-cast-analysis Inv-loop μ-loop
+cast-analysis c = ?
+
+-- src/lib.rt:90:1
+returns-3 : tie.Need-returns-3 Inv-loop μ-loop
+returns-3 c = ?
+
+pub sized-spec : {M : Type 1} → statement M
+sized-spec =
+    tie.close
+    (tie.spec
+    Inv-loop
+    μ-loop
+    cast-n
+    loop-holds
+    mul-q
+    element-copy-out-q
+    parted-requires
+    rate-after-requires
+    add-refused
+    cast-refused
+    refused-requires
+    returns
+    cast-x
+    cast-y
+    mul-busy-after
+    element-copy-out-busy-after
+    busy-after-requires
+    size-of-requires
+    mul-t17
+    element-set-from-analysis
+    add-i
+    loop-less
+    loop-again
+    cast-if3
+    refused-requires-2
+    returns-2
+    cast-analysis
+    returns-3)
