@@ -3,7 +3,7 @@
 --   capacity B b        the capacity in force: B, or b where B is 0
 --   capacity-written, -minimum
 --                       the two cases
---   capacity-fits       what neither B nor b passes, it does not pass
+--   capacity-fits       it is at most a number that B and b both are at most
 --   margin k b          k - b, with its sign
 --   margin-balance      b and the margin make k, so it is the only such number
 --   margin-over, -under it is k - b where b ≤ k, and minus b - k where k < b
@@ -11,11 +11,11 @@
 --   margin-negative     it is negative exactly where k is below b
 --   short-is            and so exactly where B is not 0 and below b
 --   Within k b          what the code is handed: a capacity and a minimum up to a million
-use mathlib.Core.Path.{_≡_, refl, sym, _∙_, ap}
-use mathlib.Core.Bool.{Bool, true, false, cond, true≢false}
-use mathlib.Core.Logic.{_↔_, _≢_, ⊎-elim}
-use Prim.Native.Nat.{ℕ, zero, suc, _+_, _-_, _≤_, _<_}
-use native.Mathlib.Nat.{le-refl, eq-zero-or-pos}
+use mathlib.Core.Path.{_≡_, refl, ap}
+use mathlib.Core.Bool.{Bool, true, false, cond}
+use mathlib.Core.Logic.{_↔_, _≢_}
+use Prim.Native.Nat.{ℕ, suc, _-_, _≤_, _<_}
+use native.Mathlib.Nat.{le-refl}
 use native.Mathlib.Omega.{arith}
 use lib.Dec.{ltb, eqb}
 use lib.IntN.{ℤ, pos, negsuc, subℕ, negℤ, _+ℤ_}
@@ -34,9 +34,9 @@ pub capacity-minimum : (b : ℕ) → capacity 0 b ≡ b
 unfolding capacity
 capacity-minimum b = refl
 
-pub capacity-fits : (B b m : ℕ) → B ≤ m → b ≤ m → capacity B b ≤ m
+pub capacity-fits : (m B b : ℕ) → B ≤ m → b ≤ m → capacity B b ≤ m
 unfolding capacity
-capacity-fits B b m hB hb = by (eqb B 0)
+capacity-fits m B b hB hb = by (eqb B 0)
   where
     by : (t : Bool) → cond t b B ≤ m
     by true = hb

@@ -9,7 +9,7 @@
 --   Reaches s p τ c q   q firings of the producer, and no fewer, bring the contents from s to τ - c
 --   naming-is           the count is q + w for that q and the w with gcd p c * w = c, so it is the only such number
 --   naming-pos, -fits   it is not 0, and at most τ
-use mathlib.Core.Path.{_≡_, refl, sym, _∙_, ap, ap₂}
+use mathlib.Core.Path.{_≡_, sym, _∙_, ap, ap₂}
 use Prim.Native.Nat.{ℕ, _+_, _-_, _*_, _/_, _%_, _≤_, _<_}
 use native.Mathlib.Nat.{le-antisymm, zero-add, sub-zero, div-le-self, mul-le-mul-right, eq-of-mul-eq-mul-left}
 use native.Mathlib.Omega.{arith}
@@ -50,7 +50,7 @@ pub minimum-rest : (p τ c : ℕ) → 0 < τ → minimum 0 p τ c ≡ (τ - 1) -
 unfolding minimum
 minimum-rest p τ c h = rw (residue-rest 0 τ (gcd p c) h, sub-zero, zero-add)
 
--- 01's "naming count of demand 3: (τ - c)/p rounded up, plus c/g"; at s = 0 each minus is exact, since c ≤ τ, and from s > τ - c on the first part is 0
+-- 01's "naming count of demand 3: (τ - c)/p rounded up, plus c/g"; c ≤ τ, so at s = 0 the minus is exact, and a start past τ - c makes the first part 0
 unfoldable pub naming : ℕ → ℕ → ℕ → ℕ → ℕ
 unfolding ceil gcd
 naming s p τ c = ceil (τ - c - s) p + c / gcd p c
@@ -63,9 +63,10 @@ pub record Reaches (s p τ c q : ℕ) : Type 0 where
 pub naming-is : (s p τ c q w : ℕ) → 0 < p → Reaches s p τ c q → gcd p c * w ≡ c → naming s p τ c ≡ q + w
 unfolding naming
 naming-is s p τ c q w hp r e =
-    let up : ceil (τ - c - s) p ≡ q = le-antisymm (ceil-least (τ - c - s) p q (omega (arith, r .enough))) (r .least _ (omega (arith, ceil-above (τ - c - s) p hp))) in
+    let no-more : ceil (τ - c - s) p ≤ q = ceil-least (τ - c - s) p q (omega (arith, r .enough)) in
+    let no-less : q ≤ ceil (τ - c - s) p = r .least (ceil (τ - c - s) p) (omega (arith, ceil-above (τ - c - s) p hp)) in
     let down : c / gcd p c ≡ w = eq-of-mul-eq-mul-left (gcd p c) (gcd-pos-left p c hp) (c / gcd p c) w (gcd-mul-right p c ∙ sym e) in
-    ap₂ _+_ up down
+    ap₂ _+_ (le-antisymm no-more no-less) down
 
 pub naming-pos : (s p τ c : ℕ) → 0 < c → 0 < naming s p τ c
 unfolding naming

@@ -9,7 +9,7 @@
 --   residue-000, -004   the residue as 000 writes it and as 004 does, at s = 0; so the two agree
 --   residue-floor       the residue at s = 0 with a division rounded down
 --   residue-rest        the residue by one remainder
-use mathlib.Core.Path.{_≡_, refl, sym, _∙_, ap}
+use mathlib.Core.Path.{_≡_, sym, _∙_, ap}
 use mathlib.Core.Logic.{_≢_, ⊎-elim}
 use Prim.Native.Nat.{ℕ, zero, suc, _+_, _-_, _*_, _/_, _%_, _≤_, _<_}
 use native.Mathlib.Nat.{le-antisymm, lt-of-not-le, eq-or-lt-of-le, zero-lt-suc, zero-add, sub-zero, mul-comm, mod-zero, div-mul-le-self, lt-div-mul-add, div-add-mod', add-mul-mod-self-right}
@@ -48,20 +48,22 @@ largest-near s τ g k lo hi = record { below = lo; rest = same; top = λ m l e. 
     by m l e (yes h) = h
     by m l e (no f) = absurd (omega (arith, same-rest-gap (s + k * g) m g (same ∙ sym e) (lt-of-not-le f)))
 
--- one less than n over g rounded up is what is left of n, less one, over g rounded down
+-- n over g rounded up, less one, is n - 1 over g rounded down
 ceil-less : (n g : ℕ) → 0 < n → 0 < g → ceil n g - 1 ≡ (n - 1) / g
 ceil-less n g h hg =
-    let e : ceil n g ≡ (n - 1) / g + 1 = ceil-unique n g ((n - 1) / g + 1) (omega (arith, floor-above (n - 1) g hg)) (omega (arith, floor-below (n - 1) g)) in
-    omega arith
+    let lo : n ≤ g * ((n - 1) / g + 1) = omega (arith, floor-above (n - 1) g hg) in
+    let hi : g * ((n - 1) / g + 1) < n + g = omega (arith, floor-below (n - 1) g) in
+    omega (arith, ceil-unique n g ((n - 1) / g + 1) lo hi)
 
 pub residue-largest : (s τ g : ℕ) → s < τ → 0 < g → Largest s τ g (residue s τ g)
 unfolding residue
 residue-largest s τ g h hg =
     let e : ceil (τ - s) g - 1 ≡ (τ - s - 1) / g = ceil-less (τ - s) g (omega arith) hg in
-    rw e
-    (largest-near s τ g ((τ - s - 1) / g) (omega (arith, div-mul-le-self (τ - s - 1) g)) (omega (arith, lt-div-mul-add {a = τ - s - 1} hg)))
+    let lo : s + (τ - s - 1) / g * g < τ = omega (arith, div-mul-le-self (τ - s - 1) g) in
+    let hi : τ ≤ s + (τ - s - 1) / g * g + g = omega (arith, lt-div-mul-add {a = τ - s - 1} hg) in
+    largest-near s τ g (ceil (τ - s) g - 1) (rw e lo) (rw e hi)
 
--- b of 000's Lemma 1, but for its last summand
+-- 000's Lemma 1, but for the last summand p
 pub residue-000 : (τ g : ℕ) → residue 0 τ g ≡ (ceil τ g - 1) * g
 unfolding residue
 residue-000 τ g = rw sub-zero (zero-add _)
@@ -71,7 +73,8 @@ less-one zero g = omega arith
 less-one (suc k) g = let e : suc k - 1 ≡ k = omega arith in rw e (omega arith)
 
 -- r of 004's section 7: τ - g where τ is k * g for some k, otherwise τ over g, rounded down, times g
-pub residue-004 : (τ g : ℕ) → 0 < g → ((k : ℕ) → τ ≡ k * g → residue 0 τ g ≡ τ - g) × (((k : ℕ) → τ ≢ k * g) → residue 0 τ g ≡ τ / g * g)
+pub residue-004 : (τ g : ℕ) → 0 < g
+    → ((k : ℕ) → τ ≡ k * g → residue 0 τ g ≡ τ - g) × (((k : ℕ) → τ ≢ k * g) → residue 0 τ g ≡ τ / g * g)
 residue-004 τ g hg = (whole, part)
   where
     whole : (k : ℕ) → τ ≡ k * g → residue 0 τ g ≡ τ - g
@@ -81,7 +84,7 @@ residue-004 τ g hg = (whole, part)
 
     part : ((k : ℕ) → τ ≢ k * g) → residue 0 τ g ≡ τ / g * g
     part f =
-        let over : g * (τ / g) < τ = ⊎-elim (λ e. absurd (f (τ / g) (sym e ∙ mul-comm g (τ / g)))) (λ l. l) (eq-or-lt-of-le (floor-below τ g)) in
+        let past : g * (τ / g) < τ = ⊎-elim (λ e. absurd (f (τ / g) (sym e ∙ mul-comm g (τ / g)))) (λ l. l) (eq-or-lt-of-le (floor-below τ g)) in
         let up : ceil τ g ≡ τ / g + 1 = ceil-unique τ g (τ / g + 1) (omega (arith, floor-above τ g hg)) (omega arith) in
         let down : ceil τ g - 1 ≡ τ / g = omega arith in
         residue-000 τ g ∙ ap (λ (n : ℕ). n * g) down

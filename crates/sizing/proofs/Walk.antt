@@ -1,6 +1,7 @@
 -- The walk over the queues, as the code has it: rates, load and sizes so far, and its ways out.
 use mathlib.Core.Path.{_≡_, refl, sym, ap, ap₂, _∙_}
-use mathlib.Core.Logic.{_≢_, _⊎_, inl, inr, ⊎-elim}
+use mathlib.Core.Bool.{true, false}
+use mathlib.Core.Logic.{inl, inr, ⊎-elim}
 use mathlib.Core.List.{List, [], _∷_}
 use Prim.Native.Nat.{ℕ, zero, suc, _+_, _*_, _≤_, _<_}
 use native.Mathlib.Nat.{eq-or-lt-of-le}
@@ -13,13 +14,14 @@ use Rattle.chain.specs.Record.{rowOf, workOf}
 use Rattle.chain.specs.Sound.{Sound}
 use Rattle.chain.specs.declared.Refusal.{Refusal}
 use Rattle.chain.specs.declared.Chain.{Chain}
-use Rattle.rates.specs.Rates.{rateAfter}
-use Rattle.rates.specs.Load.{capped, capped-step, capped-above, capped-same, capped-within}
+use Rattle.onequeue.specs.declared.Row.{Row}
+use Rattle.rates.specs.Rates.{rateAfter, Step, stretch-below}
+use Rattle.rates.specs.Load.{capped, capped-step, capped-above, capped-same, capped-within, capped-below, Small}
 use Rattle.rates.specs.declared.Rate.{Rate}
-use Rattle.sizing.specs.Nodes.{xOf, yOf, stretchOf, y-stretch, grows}
+use Rattle.sizing.specs.Nodes.{xOf, yOf, stretchOf, x-pos, y-stretch, grows}
 use Rattle.sizing.specs.Load.{busyIn, busyOf, cycleOf, busy-next}
-use Rattle.sizing.specs.Sizes.{sizeBy, sizeOf, noSize, analysisOf, sized, sized-refused, sized-fine, emptyAnalysis}
-use Rattle.sizing.specs.Checks.{limit, Slow, FirstFast, sizeChecks, rateCheck, loadCheck, rate-exact, rates-silent, load-exact, load-silent}
+use Rattle.sizing.specs.Sizes.{rowBy, row-known, sizeBy, sizeOf, noSize, analysisOf, sized, sized-refused, sized-fine, emptyAnalysis}
+use Rattle.sizing.specs.Checks.{limit, fast, fast-true, fast-false, Slow, FirstFast, sizeChecks, rateCheck, loadCheck, rate-exact, rates-silent, load-exact, load-silent}
 use Rattle.sizing.specs.declared.QueueSize.{QueueSize}
 use Rattle.sizing.specs.declared.Analysis.{Analysis}
 use Rattle.sizing.specs.declared.AnalysisAnswer.{AnalysisAnswer}
@@ -34,6 +36,7 @@ pub record Walked (c : Chain) (i x y busy : ℕ) (a : Analysis) : Type 0 where
   pub firings : x ≡ xOf c i
   pub ticks : y ≡ yOf c i
   pub load : busy ≡ capped (yOf c i) (busyIn c (yOf c i) i)
+  pub fits : (x ≤ limit) × (y ≤ limit)
   pub slow : (j : ℕ) → j < i → Slow c (suc j)
   pub known : a ≡ filled c i
 
@@ -41,6 +44,10 @@ pub record Walked (c : Chain) (i x y busy : ℕ) (a : Analysis) : Type 0 where
 pub record Turn (c : Chain) (i x y : ℕ) (r : Rate) : Type 0 where
   pub inside : i < c .n
   pub rate : r ≡ rateAfter (rowOf c i .produce) (rowOf c i .consume) x y
+
+pub turn : {c : Chain} {i x y : ℕ} {row : Row} {r : Rate} → i < c .n → row ≡ rowBy (rowOf c i) → r ≡ rateAfter (row .produce) (row .consume) x y → Turn c i x y r
+unfolding rowBy
+turn {x = x} {y} l e f = record { inside = l; rate = f ∙ ap (λ (w : Row). rateAfter (w .produce) (w .consume) x y) e }
 
 module _ (c : Chain) (s : Sound c) where
   pub walk-none : Walked c 0 1 (c .period) 0 (record { n = c .n; queues = replicate 16 noSize; busy = 0; cycle = 0 })
@@ -50,6 +57,7 @@ module _ (c : Chain) (s : Sound c) where
     firings = refl;
     ticks = refl;
     load = omega arith;
+    fits = (omega arith, omega (arith, s .period .1));
     slow = λ j l. absurd (omega arith);
     known = ap (λ (q : List QueueSize). record { n = c .n; queues = q; busy = 0; cycle = 0 }) (slots-none (sizeOf c) noSize 16);
   }
@@ -70,6 +78,17 @@ module _ (c : Chain) (s : Sound c) where
   unfolding rateAfter
   next-stretch w t = ap (λ (r : Rate). r .stretch) (next-rate w t)
 
+  -- what the two steps of a turn ask
+  pub walk-step : {i x y busy : ℕ} {a : Analysis} {row : Row} → Walked c i x y busy a → i < c .n → row ≡ rowBy (rowOf c i) → Step row x
+  walk-step {i} w l e = record { known = rw e (row-known (s .rows i l)); fires = rw (w .firings) (x-pos c s i (w .within)) }
+
+  pub walk-small : {i x y busy : ℕ} {a : Analysis} {r : Rate} → Walked c i x y busy a → Turn c i x y r → Small busy (r .stretch) (workOf c i)
+  walk-small {i} w t = record {
+    before = omega (arith, w .load, w .ticks, w .fits .1, capped-below (yOf c i) (busyIn c (yOf c i) i));
+    stretch = omega (arith, next-stretch w t, stretch-below (rowOf c i .produce) (rowOf c i .consume) (xOf c i) (s .rows i (t .inside) .consume .0), s .rows i (t .inside) .consume .1);
+    work = s .work i (t .inside) .1;
+  }
+
   -- the load with one node more
   next-load : (i busy later : ℕ) → i < c .n → busy ≡ capped (yOf c i) (busyIn c (yOf c i) i) → later ≡ capped (yOf c (suc i)) (busy * stretchOf c i + workOf c i * xOf c (suc i)) → later ≡ capped (yOf c (suc i)) (busyIn c (yOf c (suc i)) (suc i))
   next-load i busy later l e f =
@@ -78,18 +97,22 @@ module _ (c : Chain) (s : Sound c) where
       let once : capped (yOf c (suc i)) (capped (yOf c i) B * stretchOf c i + d) ≡ capped (yOf c (suc i)) (B * stretchOf c i + d) = rw (y-stretch c s i l) (capped-step (yOf c i) B (stretchOf c i) d (grows c s i l)) in
       f ∙ ap (λ (n : ℕ). capped (yOf c (suc i)) (n * stretchOf c i + d)) e ∙ once ∙ ap (capped (yOf c (suc i))) (sym (busy-next c s i l))
 
-  pub walk-more : {i x y busy later : ℕ} {a : Analysis} {r : Rate} {q : QueueSize} → Walked c i x y busy a → Turn c i x y r → r .x ≤ limit → r .y ≤ limit
+  pub walk-more : {i x y busy later : ℕ} {a : Analysis} {r : Rate} {q : QueueSize} → Walked c i x y busy a → Turn c i x y r → fast (r .x) (r .y) ≡ false
       → later ≡ capped (r .y) (busy * r .stretch + workOf c i * r .x) → q ≡ sizeBy (rowOf c i) (r .x) (r .y)
       → Walked c (i + 1) (r .x) (r .y) later (record { n = a .n; queues = set (a .queues) i q; busy = a .busy; cycle = a .cycle })
-  walk-more {i} {x} {y} {busy} {later} {a} {r} {q} w t lx ly el eq = rw add-one (record {
+  walk-more {i} {x} {y} {busy} {later} {a} {r} {q} w t not-fast el eq = rw add-one (record {
     within = t .inside;
     firings = ex;
     ticks = ey;
     load = next-load i busy later (t .inside) (w .load) loaded;
+    fits = within;
     slow = slow;
     known = stored;
   })
     where
+      within : (r .x ≤ limit) × (r .y ≤ limit)
+      within = fast-false (r .x) (r .y) .0 not-fast
+
       ex : r .x ≡ xOf c (suc i)
       ex = next-x w t
 
@@ -100,7 +123,7 @@ module _ (c : Chain) (s : Sound c) where
       loaded = rw (← ex, ← ey, ← next-stretch w t) el
 
       slow : (j : ℕ) → j < suc i → Slow c (suc j)
-      slow j l = ⊎-elim (λ e. rw e (rw (← ex) lx, rw (← ey) ly)) (λ h. w .slow j h) (eq-or-lt-of-le (omega arith))
+      slow j l = ⊎-elim (λ e. rw e (rw (← ex) (within .0), rw (← ey) (within .1))) (λ h. w .slow j h) (eq-or-lt-of-le (omega arith))
 
       stored : record { n = a .n; queues = set (a .queues) i q; busy = a .busy; cycle = a .cycle } ≡ filled c (suc i)
       stored =
@@ -120,7 +143,7 @@ module _ (c : Chain) (s : Sound c) where
   load-next z e = or-right refl z e
 
   -- the way out at 6: the queue's consumer is too fast
-  pub walk-fast : {i x y busy : ℕ} {a : Analysis} {r : Rate} → Walked c i x y busy a → Turn c i x y r → (limit < r .x) ⊎ (limit < r .y)
+  pub walk-fast : {i x y busy : ℕ} {a : Analysis} {r : Rate} → Walked c i x y busy a → Turn c i x y r → fast (r .x) (r .y) ≡ true
       → record { number = 6; place = i + 1; analysis = emptyAnalysis } ≡ sized (first (sizeChecks c)) c
   walk-fast {i} {r = r} w t over =
       let e : refused 6 (i + 1) ≡ rateCheck c = sym (rate-exact c (i + 1) .1 lowest) in
@@ -131,7 +154,7 @@ module _ (c : Chain) (s : Sound c) where
       earlier (suc j) p l = w .slow j (omega arith)
 
       lowest : FirstFast c (i + 1)
-      lowest = rw add-one (record { node = (omega arith, t .inside); above = ⊎-elim (λ h. inl (rw (← next-x w t) h)) (λ h. inr (rw (← next-y w t) h)) over; before = λ j p l. earlier j p (omega arith) })
+      lowest = rw add-one (record { node = (omega arith, t .inside); above = ⊎-elim (λ h. inl (rw (← next-x w t) h)) (λ h. inr (rw (← next-y w t) h)) (fast-true (r .x) (r .y) .0 over); before = λ j p l. earlier j p (omega arith) })
 
   -- behind the last queue, every rate is within the limit
   slow-end : {i x y busy : ℕ} {a : Analysis} → Walked c i x y busy a → c .n ≤ i → Silent (rateCheck c)

@@ -1,5 +1,5 @@
 -- The checks of the analysis, 6 and 7, and of a run, 8 (01, Numbers a call may refuse with).
---   limit                      4,294,967,295
+--   limit, fast x y            4,294,967,295, and whether a rate passes it (fast-true, -false)
 --   rateTest c i, rateCheck c  6 of node i+1, and of the chain: the lowest such node
 --   loadCheck c                7: overloaded
 --   capacityTest c i, capacityCheck c
@@ -15,24 +15,28 @@
 --                              each check speaks exactly under its condition, is silent elsewhere, and speaks with its own number
 --   analyse-2 to analyse-7, run-8
 --                              when a chain is refused with each number
-use mathlib.Core.Path.{_≡_, refl}
-use mathlib.Core.Bool.{true, not, _||_, _&&_}
+use mathlib.Core.Path.{_≡_, refl, ap, _∙_}
+use mathlib.Core.Bool.{Bool, true, false, cond, not, _||_, _&&_}
 use mathlib.Core.Logic.{_↔_, _≢_, _⊎_, Iff·trans, Iff·and, Iff·rfl, true-and}
 use mathlib.Core.List.{List, [], _∷_, _++_}
 use Prim.Native.Nat.{ℕ, zero, suc, _+_, _*_, _≤_, _<_}
+use native.Mathlib.Nat.{le-refl}
 use native.Mathlib.Omega.{arith}
 use lib.Dec.{ltb, eqb}
+use borrow.Author.Tests.{le-ltb}
 use lib.ListN.{getD, take}
-use Rattle.words.specs.Table.{tab}
+use Rattle.words.specs.Table.{tab, tab-alike}
 use Rattle.chain.specs.Tests.{Out, below-true, below-false, differ-true, differ-false, or-true, or-false, and-true, and-false}
 use Rattle.chain.specs.Refusals.{refused, fine, test, first, Silent, Silents, Numbered, exact-at, Lowest, lowest-is, Only, only-test, only-tab, test-exact, test-silent, all-silent}
 use Rattle.chain.specs.Record.{rowOf}
 use Rattle.chain.specs.Checks.{countCheck, rangeCheck, orderCheck, recordRange, recordOrder, chainChecks, fields, FirstOut, FirstOver, count-exact, range-exact, order-exact, count-only, range-only, order-only}
 use Rattle.chain.specs.declared.Refusal.{Refusal}
 use Rattle.chain.specs.declared.Chain.{Chain}
+use Rattle.onequeue.specs.Capacity.{capacity}
 use Rattle.sizing.specs.Nodes.{xOf, yOf}
 use Rattle.sizing.specs.Load.{busyIn, busyOf, cycleOf}
-use Rattle.sizing.specs.Sizes.{minimumOf, noSize, sized}
+use Rattle.sizing.specs.Sizes.{minimumOf, noSize, sizeBy, analysisOf, sized, size-at}
+use Rattle.sizing.specs.declared.QueueSize.{QueueSize}
 use Rattle.sizing.specs.declared.Analysis.{Analysis}
 use Rattle.sizing.specs.declared.AnalysisAnswer.{AnalysisAnswer}
 
@@ -40,9 +44,13 @@ use Rattle.sizing.specs.declared.AnalysisAnswer.{AnalysisAnswer}
 abbrev pub limit : ℕ
 limit = 4294967295
 
--- 6 of one node: "some x or y of a rate is above 4,294,967,295", place the node
+-- "some x or y of a rate is above 4,294,967,295"
+abbrev pub fast : ℕ → ℕ → Bool
+fast x y = ltb limit x || ltb limit y
+
+-- 6 of one node, place the node
 abbrev pub rateTest : Chain → ℕ → Refusal
-rateTest c i = test 6 (suc i) (ltb limit (xOf c (suc i)) || ltb limit (yOf c (suc i)))
+rateTest c i = test 6 (suc i) (fast (xOf c (suc i)) (yOf c (suc i)))
 
 -- 6: the "lowest node"
 unfoldable pub rateCheck : Chain → Refusal
@@ -63,9 +71,12 @@ unfolding first tab
 capacityCheck c = first (tab (c .n) (capacityTest c))
 
 -- 8 as the analysis shows it: the lowest queue whose capacity in force is below its minimum
+abbrev pub shortTest : Analysis → ℕ → Refusal
+shortTest a i = test 8 i (ltb (getD (a .queues) i noSize .capacity) (getD (a .queues) i noSize .minimum))
+
 unfoldable pub shortIn : Analysis → Refusal
 unfolding first tab
-shortIn a = first (tab (a .n) (λ i. test 8 i (ltb (getD (a .queues) i noSize .capacity) (getD (a .queues) i noSize .minimum))))
+shortIn a = first (tab (a .n) (shortTest a))
 
 -- "analysis checks also 6, 7"
 abbrev pub sizeChecks : Chain → List Refusal
@@ -95,6 +106,12 @@ unfoldable pub runAnswer : Chain → AnalysisAnswer
 unfolding runRefusal sized
 runAnswer c = sized (runRefusal c) c
 
+pub fast-true : (x y : ℕ) → (fast x y ≡ true) ↔ ((limit < x) ⊎ (limit < y))
+fast-true x y = or-true (below-true limit x) (below-true limit y)
+
+pub fast-false : (x y : ℕ) → (fast x y ≡ false) ↔ ((x ≤ limit) × (y ≤ limit))
+fast-false x y = or-false (below-false limit x) (below-false limit y)
+
 -- both numbers of N_i's rate are within the limit
 abbrev pub Slow : Chain → ℕ → Type 0
 Slow c i = (xOf c i ≤ limit) × (yOf c i ≤ limit)
@@ -107,10 +124,10 @@ pub record FirstFast (c : Chain) (L : ℕ) : Type 0 where
 
 module _ (c : Chain) where
   pub rate-silent : (i : ℕ) → Silent (rateTest c i) ↔ Slow c (suc i)
-  rate-silent i = Iff·trans (test-silent 6 (suc i) (λ e. omega arith) _) (or-false (below-false limit (xOf c (suc i))) (below-false limit (yOf c (suc i))))
+  rate-silent i = Iff·trans (test-silent 6 (suc i) (λ e. omega arith) _) (fast-false (xOf c (suc i)) (yOf c (suc i)))
 
   rate-says : (i L : ℕ) → (rateTest c i ≡ refused 6 L) ↔ (((limit < xOf c (suc i)) ⊎ (limit < yOf c (suc i))) × (L ≡ suc i))
-  rate-says i L = Iff·trans (test-exact 6 L (suc i) (λ e. omega arith) _) (Iff·and (or-true (below-true limit (xOf c (suc i))) (below-true limit (yOf c (suc i)))) Iff·rfl)
+  rate-says i L = Iff·trans (test-exact 6 L (suc i) (λ e. omega arith) _) (Iff·and (fast-true (xOf c (suc i)) (yOf c (suc i))) Iff·rfl)
 
   pub rate-exact : (L : ℕ) → (rateCheck c ≡ refused 6 L) ↔ FirstFast c L
   unfolding rateCheck
@@ -143,6 +160,15 @@ module _ (c : Chain) where
 
   pub load-silent : Silent (loadCheck c) ↔ (busyOf c ≤ cycleOf c)
   load-silent = Iff·trans (test-silent 7 0 (λ e. omega arith) _) (below-false (cycleOf c) (busyOf c))
+
+-- the capacity in force is below the minimum exactly where one is written, and that is
+short-alike : (B b : ℕ) → ltb (capacity B b) b ≡ (not (eqb B 0) && ltb B b)
+unfolding capacity
+short-alike B b = by (eqb B 0)
+  where
+    by : (t : Bool) → ltb (cond t b B) b ≡ (not t && ltb B b)
+    by true = le-ltb b b (le-refl b)
+    by false = refl
 
 -- queue i's capacity is written, and below its minimum; or it is neither
 abbrev pub Short : Chain → ℕ → Type 0
@@ -180,10 +206,20 @@ module _ (c : Chain) where
   unfolding capacityCheck
   capacity-silent = Iff·trans (all-silent (capacityTest c) (c .n)) (λ h i l. enough-silent i .0 (h i l), λ h i l. enough-silent i .1 (h i l))
 
+  -- the analysis shows 8: a capacity in force is below the minimum only where it is written
+  pub short-is-capacity : c .n ≤ 16 → shortIn (analysisOf c) ≡ capacityCheck c
+  unfolding shortIn capacityCheck analysisOf sizeBy
+  short-is-capacity few = ap first (tab-alike (c .n) (shortTest (analysisOf c)) (capacityTest c) alike)
+    where
+      alike : (i : ℕ) → i < c .n → shortTest (analysisOf c) i ≡ capacityTest c i
+      alike i l =
+          ap (λ (q : QueueSize). test 8 i (ltb (q .capacity) (q .minimum))) (size-at c i few l)
+          ∙ ap (test 8 i) (short-alike (rowOf c i .capacity) (minimumOf (rowOf c i)))
+
   -- each check speaks with its own number only
   pub rate-only : Only 6 (rateCheck c)
   unfolding rateCheck
-  rate-only = only-tab 6 (rateTest c) (λ i. only-test 6 (suc i) (ltb limit (xOf c (suc i)) || ltb limit (yOf c (suc i)))) (c .n)
+  rate-only = only-tab 6 (rateTest c) (λ i. only-test 6 (suc i) (fast (xOf c (suc i)) (yOf c (suc i)))) (c .n)
 
   pub load-only : Only 7 (loadCheck c)
   load-only = only-test 7 0 (ltb (cycleOf c) (busyOf c))

@@ -64,7 +64,7 @@ rowBy q = record { produce = q .produce; threshold = q .threshold; consume = q .
 
 pub row-known : {q : Queue} → SoundRow q → Known (rowBy q)
 unfolding rowBy
-row-known s = record { some = s .produce .0; most = s .produce .1; taken = s .consume .0; order = s .order; high = s .threshold .1; divisor = refl; quotient = refl }
+row-known s = record { produce = s .produce; threshold = s .threshold; consume = s .consume; order = s .order; g = refl; share = refl }
 
 -- a sound queue and its numbers, as the code of its line asks
 pub record Parted (q : Queue) (row : Row) : Type 0 where
@@ -122,4 +122,4 @@ pub naming-most : {q : Queue} → SoundRow q → namingOf q ≤ 65535
 naming-most {q} s = le-trans (naming-fits 0 (q .produce) (q .threshold) (q .consume) (s .produce .0) (s .order)) (s .threshold .1)
 
 pub capacity-most : {q : Queue} → SoundRow q → capacityOf q ≤ 1000000
-capacity-most {q} s = capacity-fits (q .capacity) (minimumOf q) 1000000 (s .capacity) (le-trans (minimum-most s) (omega arith))
+capacity-most {q} s = capacity-fits 1000000 (q .capacity) (minimumOf q) (s .capacity) (le-trans (minimum-most s) (omega arith))

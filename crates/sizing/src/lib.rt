@@ -5,11 +5,12 @@ ghost use Rattle.chain.specs.Refusals.{first};
 ghost use Rattle.chain.specs.Sound.{Sound, SoundRow};
 ghost use Rattle.chain.specs.Faults.{Few};
 ghost use Rattle.sizing.specs.Sizes.{sizeBy, sized, refusedWith, rowBy, Parted};
-ghost use Rattle.sizing.specs.Checks.{sizeChecks, analyseAnswer, runAnswer, shortIn};
+ghost use Rattle.sizing.specs.Checks.{fast, sizeChecks, analyseAnswer, runAnswer, shortIn};
 use chain::Chain;
 use chain::Queue;
 use chain::Refusal;
 use onequeue::Row;
+use rates::Rate;
 
 // A queue as the analysis has it: its consumer fires x times in y ticks; `by` is the naming count.
 #[repr(C)]
@@ -102,7 +103,7 @@ pub fn sized(chain: Chain) -> AnalysisAnswer
         let q = chain.queues[i];
         let row = parted(q);
         let rate = rates::rate_after(row, x, y);
-        if LIMIT < rate.x || LIMIT < rate.y {
+        if is_fast(rate) {
             return refused(6, (i + 1) as u32);
         }
         x = rate.x as u32;
@@ -132,6 +133,13 @@ fn refused(number: u32, place: u32) -> AnalysisAnswer
         place: place,
         analysis: NOTHING,
     }
+}
+
+// Whether a rate passes the limit.
+fn is_fast(rate: Rate) -> bool
+    ensures { λ r. ⌜ r ≡ fast (rate .x) (rate .y) ⌝ }
+{
+    LIMIT < rate.x || LIMIT < rate.y
 }
 
 // 8: the lowest queue whose capacity is below its minimum.

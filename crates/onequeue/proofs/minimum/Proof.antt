@@ -15,7 +15,7 @@ sub-last c = search needs
 rem-result : tie.Need-rem-result
 rem-result c =
     let q = c .before .before .args .q in
-    omega (arith, gcd-pos-left (q .produce) (q .consume) (c .before .before .pre .some))
+    omega (arith, gcd-pos-left (q .produce) (q .consume) (c .before .before .pre .produce .0))
 
 sub-result : tie.Need-sub-result
 sub-result c = let q = c .before .before .args .q in mod-le (q .threshold - 1) (q .g)
@@ -26,7 +26,7 @@ add-result c = search needs
 returns : tie.Need-returns
 returns c =
     let q = c .before .before .before .args .q in
-    rw (c .before .before .before .pre .divisor) (sym (minimum-rest (q .produce) (q .threshold) (q .consume) (omega arith)))
+    rw (c .before .before .before .pre .g) (sym (minimum-rest (q .produce) (q .threshold) (q .consume) (omega arith)))
 
 pub minimum-spec : {M : Type 1} → statement M
 minimum-spec = tie.close (tie.spec sub-last rem-result sub-result add-result returns)

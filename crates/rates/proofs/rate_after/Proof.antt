@@ -13,7 +13,7 @@ use Rattle.rates.proofs.rate_after.Tie as tie
 -- the queue's gcd is not 0, nor is that of x and the share; the share has 16 bits
 module _ (q : Row) (x h : ℕ) (s : Step q x) (e : h ≡ gcd x (q .share)) where
   divisor : 0 < q .g
-  divisor = rw (s .known .divisor) (gcd-pos-left (q .produce) (q .consume) (s .known .some))
+  divisor = rw (s .known .g) (gcd-pos-left (q .produce) (q .consume) (s .known .produce .0))
 
   common : 0 < h
   common = rw e (gcd-pos-left x (q .share) (s .fires))
@@ -22,10 +22,10 @@ module _ (q : Row) (x h : ℕ) (s : Step q x) (e : h ≡ gcd x (q .share)) where
   common-most = rw e (gcd-le-left x (q .share) (s .fires))
 
   stretch-most : q .share / h ≤ 65535
-  stretch-most = omega (arith, div-le-self (q .share) h, s .known .quotient, div-le-self (q .consume) (q .g), s .known .order, s .known .high)
+  stretch-most = omega (arith, div-le-self (q .share) h, s .known .share, div-le-self (q .consume) (q .g), s .known .consume .1)
 
   x-most : x ≤ 4294967295 → q .produce / q .g * (x / h) ≤ 65535 * 4294967295
-  x-most l = mul-le-mul (le-trans (div-le-self (q .produce) (q .g)) (s .known .most)) (le-trans (div-le-self x h) l)
+  x-most l = mul-le-mul (le-trans (div-le-self (q .produce) (q .g)) (s .known .produce .1)) (le-trans (div-le-self x h) l)
 
 cast-gcd : tie.Need-cast-gcd
 cast-gcd c = search needs
@@ -85,7 +85,7 @@ returns c =
     let s = c .before .before .before .before in
     let q = s .args .q in
     let k = s .pre .known in
-    rate-by-parts (q .produce) (q .consume) (q .g) (q .share) (s .args .x) (s .args .y) _ (k .taken) (k .divisor) (k .quotient) (c .before .before .gcd .ensures)
+    rate-by-parts (q .produce) (q .consume) (q .g) (q .share) (s .args .x) (s .args .y) _ (k .consume .0) (k .g) (k .share) (c .before .before .gcd .ensures)
 
 pub rate-after-spec : {M : Type 1} → statement M
 rate-after-spec =

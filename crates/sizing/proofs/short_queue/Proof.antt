@@ -1,53 +1,79 @@
+-- `sizing::short_queue` meets its contract: before queue i is looked at, none before it is short.
+use mathlib.Core.Path.{_≡_, refl, sym}
+use Prim.Native.Nat.{ℕ, _+_, _-_, _≤_, _<_}
+use native.Mathlib.Nat.{eq-or-lt-of-le}
+use native.Mathlib.Omega.{arith}
+use mathlib.Core.Logic.{⊎-elim}
+use borrow.Author.Needs.{needs}
+use borrow.Author.Tests.{lt-ltb, le-ltb}
+use Rattle.chain.specs.Refusals.{refused, fine, Silent, first-fine, lowest-is, all-silent, test-exact, test-silent}
+use Rattle.words.specs.Table.{tab}
+use Rattle.sizing.specs.Sizes.{noSize}
+use Rattle.sizing.specs.Checks.{shortIn, shortTest}
+use Rattle.sizing.specs.declared.Analysis.{Analysis}
 use Rattle.sizing.proofs.short_queue.Statement.{statement}
 use Rattle.sizing.proofs.short_queue.Tie as tie
-use Rattle.sizing.proofs.short_queue.Reads as reads
-use Rattle.sizing.proofs.short_queue.Lts as lts
+
+-- the queues before i are not short
+record Passed (a : Analysis) (i : ℕ) : Type 0 where
+  within : i ≤ a .n
+  silent : (j : ℕ) → j < i → Silent (shortTest a j)
 
 abbrev Inv-loop : tie.InvT-loop
-Inv-loop analysis n i₀ i = ?
+Inv-loop analysis n i₀ i = Passed analysis i
 
 abbrev μ-loop : tie.MeasureT-loop
-μ-loop analysis n i₀ i = ?
+μ-loop analysis n i₀ i = n - i
 
--- src/lib.rt:142:13
 cast-n : tie.Need-cast-n Inv-loop μ-loop
-cast-n c = ?
+cast-n c = search needs
 
--- src/lib.rt:144:5
 loop-holds : tie.Need-loop-holds Inv-loop μ-loop
-loop-holds c = ?
+loop-holds c = record { within = omega arith; silent = λ j l. absurd (omega arith) }
 
--- src/lib.rt:145:17
 mul-q : tie.Need-mul-q Inv-loop μ-loop
-mul-q c = ?
+mul-q c = search needs
 
--- src/lib.rt:145:17
 element-copy-out-q : tie.Need-element-copy-out-q Inv-loop μ-loop
-element-copy-out-q c = ?
+element-copy-out-q c = search needs
 
--- src/lib.rt:149:24
 cast-t12 : tie.Need-cast-t12 Inv-loop μ-loop
-cast-t12 c = ?
+cast-t12 c = search needs
 
--- src/lib.rt:147:13
 returns : tie.Need-returns Inv-loop μ-loop
-returns c = ?
+unfolding shortIn
+returns c =
+    let l = c .before .before .before .before in
+    let a = l .before .args .t1 in
+    sym (lowest-is 8 (l .loop .i) (λ e. omega arith) (shortTest a) (a .n) .1 (record {
+      at = l .loop .i;
+      inside = c .before .before .before .loop-test .taken;
+      says = test-exact 8 (l .loop .i) (l .loop .i) (λ e. omega arith) _ .1 (lt-ltb _ _ (c .if1 .taken), refl);
+      before = l .loop .inv .silent;
+    }))
 
--- src/lib.rt:152:9
 add-i : tie.Need-add-i Inv-loop μ-loop
-add-i c = ?
+add-i c = search needs
 
--- src/lib.rt:144:5
 loop-less : tie.Need-loop-less Inv-loop μ-loop
-loop-less c = ?
+loop-less c = search needs
 
--- src/lib.rt:144:5
 loop-again : tie.Need-loop-again Inv-loop μ-loop
-loop-again c = ?
+loop-again c =
+    let l = c .before .before .before .before in
+    let here : Silent (shortTest (l .before .args .t1) (l .loop .i)) = test-silent 8 (l .loop .i) (λ e. omega arith) _ .1 (le-ltb _ _ (c .if1 .left)) in
+    record {
+      within = omega (arith, c .before .before .before .loop-test .taken);
+      silent = λ j h. ⊎-elim (λ e. rw e here) (λ m. l .loop .inv .silent j m) (eq-or-lt-of-le {n = j} {m = l .loop .i} (omega arith));
+    }
 
--- src/lib.rt:138:1
 returns-2 : tie.Need-returns-2 Inv-loop μ-loop
-returns-2 c = ?
+unfolding shortIn
+returns-2 c =
+    let l = c .before in
+    let a = l .before .args .t1 in
+    let quiet : (j : ℕ) → j < a .n → Silent (shortTest a j) = λ j h. l .loop .inv .silent j (omega (arith, c .loop-test .left)) in
+    sym (first-fine (tab (a .n) (shortTest a)) (all-silent (shortTest a) (a .n) .1 quiet))
 
 pub short-queue-spec : {M : Type 1} → statement M
 short-queue-spec =
