@@ -1,36 +1,25 @@
 -- The answers of the analysis and of a chain that is to be run, as their code puts them together.
 use mathlib.Core.Path.{_≡_, refl, sym, ap, _∙_}
-use mathlib.Core.List.{[], _∷_}
-use Prim.Native.Nat.{_≤_}
 use Rattle.words.specs.Table.{tab}
-use Rattle.chain.specs.Refusals.{fine, first, orElse, Silent, silent-as, number-of, first-append, first-last, first-fine, or-left, or-right, or-silents}
-use Rattle.chain.specs.Checks.{chainChecks, chainRefusal}
+use Rattle.chain.specs.Refusals.{fine, first, Silent, silent-as, first-fine, or-left, or-right, or-silents}
+use Rattle.chain.specs.Checks.{chainRefusal}
 use Rattle.chain.specs.Sound.{Sound, sound}
 use Rattle.chain.specs.Faults.{Few}
 use Rattle.chain.specs.declared.Refusal.{Refusal}
 use Rattle.chain.specs.declared.Chain.{Chain}
 use Rattle.sizing.specs.Sizes.{analysisOf, sized, sized-refused, sized-fine, refusedWith}
-use Rattle.sizing.specs.Checks.{sizeChecks, analyseChecks, analyseRefusal, analyseAnswer, capacityTest, capacityCheck, runRefusal, runAnswer, shortIn, short-is-capacity}
+use Rattle.sizing.specs.Checks.{sizeChecks, analyseChecks, analyseRefusal, analyseAnswer, capacityTest, capacityCheck, runRefusal, runAnswer, shortIn, short-is-capacity, analyse-parts, run-parts}
 use Rattle.sizing.specs.declared.AnalysisAnswer.{AnalysisAnswer}
 
 module _ (c : Chain) where
-  -- the checks of the record, then 6 and 7; and those of the analysis, then 8
-  analyse-parts : analyseRefusal c ≡ orElse (chainRefusal c) (first (sizeChecks c))
-  unfolding analyseRefusal chainRefusal
-  analyse-parts = first-append (chainChecks c) (sizeChecks c)
-
-  run-parts : runRefusal c ≡ orElse (analyseRefusal c) (capacityCheck c)
-  unfolding runRefusal analyseRefusal capacityCheck first
-  run-parts = first-append (analyseChecks c) (capacityCheck c ∷ []) ∙ ap (orElse (first (analyseChecks c))) (first-last (tab (c .n) (capacityTest c)))
-
   -- the analysis' two ways out
   pub analyse-refused : {r : Refusal} → r ≡ chainRefusal c → (Silent r → ⊥) → refusedWith (r .number) (r .place) ≡ analyseAnswer c
   unfolding analyseAnswer
-  analyse-refused {r} e n = sized-refused r c n ∙ ap (λ (f : Refusal). sized f c) (or-left _ e n ∙ sym analyse-parts)
+  analyse-refused {r} e n = sized-refused r c n ∙ ap (λ (f : Refusal). sized f c) (or-left _ e n ∙ sym (analyse-parts c))
 
   pub analyse-sized : {r : Refusal} → r ≡ chainRefusal c → Silent r → sized (first (sizeChecks c)) c ≡ analyseAnswer c
   unfolding analyseAnswer
-  analyse-sized e z = ap (λ (f : Refusal). sized f c) (or-right e z refl ∙ sym analyse-parts)
+  analyse-sized e z = ap (λ (f : Refusal). sized f c) (or-right e z refl ∙ sym (analyse-parts c))
 
   -- an analysis that was not refused: the chain is sound, and this is its whole analysis
   module _ {a : AnalysisAnswer} (e : a ≡ analyseAnswer c) where
@@ -41,7 +30,7 @@ module _ (c : Chain) where
     -- the way out where the analysis refuses
     pub run-refused : (a .number ≡ 0 → ⊥) → a ≡ runAnswer c
     unfolding analyseAnswer runAnswer
-    run-refused n = e ∙ ap (λ (f : Refusal). sized f c) (or-left (capacityCheck c) refl (λ z. n (number-is ∙ z)) ∙ sym run-parts)
+    run-refused n = e ∙ ap (λ (f : Refusal). sized f c) (or-left (capacityCheck c) refl (λ z. n (number-is ∙ z)) ∙ sym (run-parts c))
 
     module _ (z : a .number ≡ 0) where
       accepted : Silent (analyseRefusal c)
@@ -52,7 +41,7 @@ module _ (c : Chain) where
       quiet = sym (first-fine (analyseChecks c) accepted)
 
       sound-chain : Sound c
-      sound-chain = sound c .0 (or-silents _ _ .0 (silent-as analyse-parts accepted) .0)
+      sound-chain = sound c .0 (or-silents _ _ .0 (silent-as (analyse-parts c) accepted) .0)
 
       whole : a ≡ record { number = 0; place = 0; analysis = analysisOf c }
       unfolding analyseAnswer
@@ -68,10 +57,10 @@ module _ (c : Chain) where
       -- the way out at 8, and the last one
       pub run-short : {r : Refusal} → r ≡ shortIn (a .analysis) → (Silent r → ⊥) → refusedWith (r .number) (r .place) ≡ runAnswer c
       unfolding runAnswer
-      run-short {r} f n = sized-refused r c n ∙ ap (λ (g : Refusal). sized g c) (or-right refl accepted (short-is f) ∙ sym run-parts)
+      run-short {r} f n = sized-refused r c n ∙ ap (λ (g : Refusal). sized g c) (or-right refl accepted (short-is f) ∙ sym (run-parts c))
 
       pub run-whole : {r : Refusal} → r ≡ shortIn (a .analysis) → Silent r → a ≡ runAnswer c
       unfolding runAnswer capacityCheck
       run-whole f s =
           let last : fine ≡ capacityCheck c = sym (first-fine (tab (c .n) (capacityTest c)) (silent-as (short-is f) s)) in
-          whole ∙ sized-fine c (or-right refl accepted last ∙ sym run-parts)
+          whole ∙ sized-fine c (or-right refl accepted last ∙ sym (run-parts c))

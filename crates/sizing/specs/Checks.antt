@@ -9,7 +9,9 @@
 --                              the checks of the analysis, and of every run and deadline question, in order
 --   analyseRefusal c, runRefusal c, analyseAnswer c, runAnswer c
 --                              what a chain is refused with, and the whole answer
---   Slow, FirstFast, FirstShort
+--   analyse-parts, run-parts   each list is the one before it, and then its own checks
+--   shortIn a                  8 as an analysis shows it; short-is-capacity: which is 8 of the chain
+--   Slow, FirstFast, Short, Enough, FirstShort
 --                              01's conditions of 6 and 8, in words
 --   rate-, load-, capacity-exact, -silent, -only
 --                              each check speaks exactly under its condition, is silent elsewhere, and speaks with its own number
@@ -27,9 +29,9 @@ use borrow.Author.Tests.{le-ltb}
 use lib.ListN.{getD, take}
 use Rattle.words.specs.Table.{tab, tab-alike}
 use Rattle.chain.specs.Tests.{Out, below-true, below-false, differ-true, differ-false, or-true, or-false, and-true, and-false}
-use Rattle.chain.specs.Refusals.{refused, fine, test, first, Silent, Silents, Numbered, exact-at, Lowest, lowest-is, Only, only-test, only-tab, test-exact, test-silent, all-silent}
+use Rattle.chain.specs.Refusals.{refused, fine, test, first, orElse, first-append, first-last, Silent, Silents, Numbered, exact-at, Lowest, lowest-is, Only, only-test, only-tab, test-exact, test-silent, all-silent}
 use Rattle.chain.specs.Record.{rowOf}
-use Rattle.chain.specs.Checks.{countCheck, rangeCheck, orderCheck, recordRange, recordOrder, chainChecks, fields, FirstOut, FirstOver, count-exact, range-exact, order-exact, count-only, range-only, order-only}
+use Rattle.chain.specs.Checks.{countCheck, rangeCheck, orderCheck, recordRange, recordOrder, chainChecks, chainRefusal, fields, FirstOut, FirstOver, count-exact, range-exact, order-exact, count-only, range-only, order-only}
 use Rattle.chain.specs.declared.Refusal.{Refusal}
 use Rattle.chain.specs.declared.Chain.{Chain}
 use Rattle.onequeue.specs.Capacity.{capacity}
@@ -111,6 +113,15 @@ fast-true x y = or-true (below-true limit x) (below-true limit y)
 
 pub fast-false : (x y : ℕ) → (fast x y ≡ false) ↔ ((x ≤ limit) × (y ≤ limit))
 fast-false x y = or-false (below-false limit x) (below-false limit y)
+
+-- the checks of the record, then 6 and 7; and those of the analysis, then 8
+pub analyse-parts : (c : Chain) → analyseRefusal c ≡ orElse (chainRefusal c) (first (sizeChecks c))
+unfolding analyseRefusal chainRefusal
+analyse-parts c = first-append (chainChecks c) (sizeChecks c)
+
+pub run-parts : (c : Chain) → runRefusal c ≡ orElse (analyseRefusal c) (capacityCheck c)
+unfolding runRefusal analyseRefusal capacityCheck first
+run-parts c = first-append (analyseChecks c) (capacityCheck c ∷ []) ∙ ap (orElse (first (analyseChecks c))) (first-last (tab (c .n) (capacityTest c)))
 
 -- both numbers of N_i's rate are within the limit
 abbrev pub Slow : Chain → ℕ → Type 0

@@ -2,3 +2,4 @@ pub mod Nodes
 pub mod Load
 pub mod Sizes
 pub mod Checks
+pub mod Accepted

@@ -1,0 +1,94 @@
+-- What a chain that the analysis accepts is, and that each of its numbers fits its width.
+--   Accepted c               sound, no rate above the limit, not overloaded: 01's accepted chain
+--   analyse-accepts          a chain is not refused exactly when it is accepted
+--   run-accepts              and a run does not refuse it exactly when each of its capacities is enough, too
+--   SizeFits q, size-fits    the numbers of a queue's line: x and y up to the limit, minimum up to 131,069, naming count up to
+--                            65,535, capacity up to 1,000,000, and the margin between minus and plus a million
+--   busy-fits, cycle-fits    the load
+use mathlib.Core.Path.{_≡_, refl, sym}
+use mathlib.Core.Bool.{Bool, true, false, cond}
+use mathlib.Core.Logic.{_↔_, Iff·trans, Iff·and, Iff·rfl}
+use mathlib.Core.List.{[], _∷_}
+use Prim.Native.Nat.{ℕ, zero, suc, _-_, _≤_, _<_}
+use native.Mathlib.Nat.{le-trans}
+use native.Mathlib.Omega.{arith}
+use lib.Dec.{ltb}
+use borrow.Author.Tests.{ltb-true}
+use lib.IntN.{pos, negsuc, natAbs}
+use Rattle.chain.specs.Refusals.{Silent, Silents, silent-as, first, first-silent, or-silents}
+use Rattle.chain.specs.Record.{rowOf}
+use Rattle.chain.specs.Sound.{Sound, sound}
+use Rattle.chain.specs.declared.Chain.{Chain}
+use Rattle.onequeue.specs.Capacity.{margin}
+use Rattle.sizing.specs.Nodes.{xOf, yOf}
+use Rattle.sizing.specs.Load.{busyOf, cycleOf}
+use Rattle.sizing.specs.Sizes.{sizeBy, sizeOf, minimum-most, naming-most, capacity-most}
+use Rattle.sizing.specs.Checks.{limit, Slow, Enough, sizeChecks, rateCheck, loadCheck, analyseRefusal, runRefusal, capacityCheck, analyse-parts, run-parts, rates-silent, load-silent, capacity-silent}
+use Rattle.sizing.specs.declared.QueueSize.{QueueSize}
+
+-- "a chain it doesn't refuse is accepted"
+pub record Accepted (c : Chain) : Type 0 where
+  pub chain : Sound c
+  pub slow : (i : ℕ) → i < c .n → Slow c (suc i)
+  pub load : busyOf c ≤ cycleOf c
+
+pub analyse-accepts : (c : Chain) → Silent (analyseRefusal c) ↔ Accepted c
+unfolding Silents
+analyse-accepts c = (out, back)
+  where
+    out : Silent (analyseRefusal c) → Accepted c
+    out z =
+        let parts = or-silents _ _ .0 (silent-as (analyse-parts c) z) in
+        let own = first-silent (sizeChecks c) .0 (parts .1) in
+        record { chain = sound c .0 (parts .0); slow = rates-silent c .0 (own .0); load = load-silent c .0 (own .1 .0) }
+
+    back : Accepted c → Silent (analyseRefusal c)
+    back a =
+        let own = first-silent (sizeChecks c) .1 (rates-silent c .1 (a .slow), (load-silent c .1 (a .load), tt)) in
+        silent-as (sym (analyse-parts c)) (or-silents _ _ .1 (sound c .1 (a .chain), own))
+
+pub run-accepts : (c : Chain) → Silent (runRefusal c) ↔ (Accepted c × ((i : ℕ) → i < c .n → Enough c i))
+run-accepts c =
+    Iff·trans (silent-as (run-parts c), silent-as (sym (run-parts c)))
+    (Iff·trans (or-silents (analyseRefusal c) (capacityCheck c)) (Iff·and (analyse-accepts c) (capacity-silent c)))
+
+-- the numbers of a queue's line
+pub record SizeFits (q : QueueSize) : Type 0 where
+  pub x : q .x ≤ limit
+  pub y : q .y ≤ limit
+  pub minimum : q .minimum ≤ 131069
+  pub by : q .by ≤ 65535
+  pub capacity : q .capacity ≤ 1000000
+  pub margin : natAbs (q .margin) ≤ 1000000
+
+margin-fits : (m k b : ℕ) → k ≤ m → b ≤ m → natAbs (margin k b) ≤ m
+unfolding margin
+margin-fits m k b hk hb = by (ltb k b) refl
+  where
+    by : (t : Bool) → ltb k b ≡ t → natAbs (cond t (negsuc (b - suc k)) (pos (k - b))) ≤ m
+    by true e = let h : k < b = ltb-true k b e in omega arith
+    by false e = omega arith
+
+module _ (c : Chain) (a : Accepted c) where
+  pub size-fits : (i : ℕ) → i < c .n → SizeFits (sizeOf c i)
+  unfolding sizeBy
+  size-fits i l =
+      let row = a .chain .rows i l in
+      record {
+        x = a .slow i l .0;
+        y = a .slow i l .1;
+        minimum = minimum-most row;
+        by = naming-most row;
+        capacity = capacity-most row;
+        margin = margin-fits 1000000 _ _ (capacity-most row) (le-trans (minimum-most row) (omega arith));
+      }
+
+  pub cycle-fits : cycleOf c ≤ limit
+  cycle-fits = last (c .n) refl
+    where
+      last : (k : ℕ) → k ≡ c .n → yOf c k ≤ limit
+      last zero e = absurd (omega (arith, a .chain .count .0))
+      last (suc k) e = a .slow k (omega arith) .1
+
+  pub busy-fits : busyOf c ≤ limit
+  busy-fits = le-trans (a .load) cycle-fits
