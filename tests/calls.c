@@ -7,17 +7,22 @@
  *     r, memory                  chain answer, memory      reads what is lent
  *     w, chain, memory           length answer, memory     writes the chain to what is lent
  *     f, uint32_t                chain answer              gives a factory chain
- *     l, chain, length           byte 0, or byte 1, length answer, first bytes, chain answer
+ *     a, chain                   analysis answer           analyses the chain
+ *     p, memory, memory          length answer, memories   reports on the first that is lent to the second
+ *     l, chain, length           byte 0, or byte 1, length answer, first bytes, chain answer, length answer,
+ *                                first bytes
  *
  * In a request, memory is three lengths, of the bytes before what is lent, of those lent and of those behind, and then
  * all of these bytes; the first is put at a multiple of 16. In an answer, memory is the same bytes as the call left
  * them.
  *
- * l is for more memory than can be sent. It takes so many zero bytes, writes the chain to them and then reads all of
- * them. The first bytes, as they are then, are as many as the longest packed file has. Byte 0 is all of the answer
- * where that much memory can't be had. */
+ * l is for more memory than can be sent. It takes so many zero bytes, writes the chain to them and reads all of them;
+ * then it makes the first of them zero again and reports to all of them on the chain's packed file. The first bytes, as
+ * they are after the writing and after the report, are as many as the longest packed file has. Byte 0 is all of the
+ * answer where that much memory can't be had. */
 #include <stdio.h>
 #include <stdlib.h>
+#include <string.h>
 
 #include "ardenquill.h"
 
@@ -105,6 +110,27 @@ static void answer_factory(void)
     put(&answer, sizeof answer);
 }
 
+/* Answers a. */
+static void answer_analyse(void)
+{
+    struct ardenquill_chain chain;
+    take(&chain, sizeof chain);
+    struct ardenquill_analysis_answer answer = ardenquill_analyse(chain);
+    put(&answer, sizeof answer);
+}
+
+/* Answers p. */
+static void answer_report(void)
+{
+    struct memory file = take_memory();
+    struct memory out = take_memory();
+    struct ardenquill_length_answer answer =
+        ardenquill_report(file.lent, file.lent_length, out.lent, out.lent_length);
+    put(&answer, sizeof answer);
+    put_memory(file);
+    put_memory(out);
+}
+
 /* Answers l. */
 static void answer_large(void)
 {
@@ -122,6 +148,12 @@ static void answer_large(void)
     put(&written, sizeof written);
     put(bytes, FIRST);
     put(&read, sizeof read);
+    uint8_t file[FIRST];
+    memcpy(file, bytes, FIRST);
+    memset(bytes, 0, FIRST);
+    struct ardenquill_length_answer reported = ardenquill_report(file, written.length, bytes, length);
+    put(&reported, sizeof reported);
+    put(bytes, FIRST);
     free(bytes);
 }
 
@@ -138,6 +170,12 @@ int main(void)
             break;
         case 'f':
             answer_factory();
+            break;
+        case 'a':
+            answer_analyse();
+            break;
+        case 'p':
+            answer_report();
             break;
         case 'l':
             answer_large();

@@ -126,7 +126,7 @@ pub fn outside(random: &mut Random, range: RangeInclusive<u32>) -> u32 {
 }
 
 /// A value of a range, its ends more often than the others.
-fn within(random: &mut Random, range: RangeInclusive<u32>) -> u32 {
+pub fn within(random: &mut Random, range: RangeInclusive<u32>) -> u32 {
     let (low, high) = range.into_inner();
     match random.below(6) {
         0 => low,

@@ -1,10 +1,12 @@
 //! The comparison of one call on one input: the answer, the lent memory, and the way back through
 //! the other call.
 
+use crate::analysed::Request;
 use crate::lent::Lent;
 use crate::library::{Large, Library, Lost};
 use crate::plain::Plain;
 use crate::records::Record;
+use crate::sights::{Analyses, Reports};
 use crate::tally::Tally;
 use compare::packed::{packed_file, packed_form};
 use compare::random::Random;
@@ -117,6 +119,37 @@ pub fn factory(
     }
 }
 
+/// Compares the analysis of a chain.
+pub fn analyse(library: &mut Library, seen: &mut Analyses, chain: &Chain) -> Result<(), Failure> {
+    let answer = library.analyse(chain)?;
+    let due = yardstick::analyse(chain);
+    seen.count(chain, &due);
+    same_answer("the answer", &answer, &due)
+}
+
+/// Compares the report on a file.
+pub fn report(
+    library: &mut Library,
+    seen: &mut Reports,
+    random: &mut Random,
+    request: &Request,
+) -> Result<(), Failure> {
+    let mut file = Lent::file(random, &request.file);
+    let before = file.memory.clone();
+    let mut lent = Lent::random(random, request.room);
+    let mut due = lent.clone();
+    let answer = library.report(&mut file, &mut lent)?;
+    let due_answer = yardstick::report(&request.file, due.bytes_mut());
+    seen.count(request.room, &due_answer);
+    same_answer("the answer", &answer, &due_answer)?;
+    same_bytes("the memory lent and around it", &lent.memory, &due.memory)?;
+    same_bytes(
+        "the memory of the file and around it",
+        &file.memory,
+        &before,
+    )
+}
+
 /// Compares what writing a valid chain to large memory gave.
 pub fn write_large(seen: &mut Tally, chain: &Chain, large: &Large) -> Result<(), Failure> {
     let mut due = vec![0; large.first.len()];
@@ -137,6 +170,14 @@ pub fn read_large(seen: &mut Tally, large: &Large) -> Result<(), Failure> {
         ..ChainAnswer::default()
     };
     same_answer("the answer", &large.read, &due)
+}
+
+/// Compares what reporting on the packed file of a valid chain to large memory gave.
+pub fn report_large(chain: &Chain, large: &Large) -> Result<(), Failure> {
+    let mut due = vec![0; large.text.len()];
+    let due_answer = yardstick::report(&packed_file(chain), &mut due);
+    same_answer("the answer", &large.reported, &due_answer)?;
+    same_bytes("the first bytes lent", &large.text, &due)
 }
 
 /// Whether the library writes a chain as these bytes, given no more room than they need.
@@ -209,8 +250,8 @@ fn without_litter(chain: &Chain) -> Chain {
     chain
 }
 
-/// The words of an answer as decimal numbers: number, place, and the rest.
-fn decimal(answer: &[u8]) -> String {
+/// The words of a struct as decimal numbers.
+pub fn decimal(answer: &[u8]) -> String {
     let words = answer
         .chunks_exact(4)
         .map(|word| u32::from_le_bytes([word[0], word[1], word[2], word[3]]));

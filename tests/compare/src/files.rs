@@ -67,12 +67,17 @@ impl Sample {
     }
 
     /// A file of a valid chain, packed or not.
-    fn any(random: &mut Random) -> Self {
-        let n = any_count(random);
-        let chain = valid(random, n);
+    fn of(random: &mut Random, chain: &Chain) -> Self {
         match random.below(4) {
-            0 => Sample::packed(random, &chain),
-            _ => Sample::scattered(random, &chain),
+            0 => Sample::packed(random, chain),
+            _ => Sample::scattered(random, chain),
+        }
+    }
+
+    /// Places one to three faults.
+    fn damage(&mut self, random: &mut Random) {
+        for _ in 0..=random.below(3) {
+            random.pick(&FAULTS).place(random, self);
         }
     }
 
@@ -259,14 +264,12 @@ fn bad_offset(random: &mut Random, offset: usize, bytes: usize, length: usize) -
 
 /// A random file: valid, with one to three faults, with damaged bytes or words, or garbage.
 pub fn any(random: &mut Random) -> Vec<u8> {
-    let mut sample = Sample::any(random);
+    let n = any_count(random);
+    let chain = valid(random, n);
+    let mut sample = Sample::of(random, &chain);
     match random.below(16) {
         0..=3 => {}
-        4..=10 => {
-            for _ in 0..=random.below(3) {
-                random.pick(&FAULTS).place(random, &mut sample);
-            }
-        }
+        4..=10 => sample.damage(random),
         11 | 12 => {
             for _ in 0..=random.below(3) {
                 let at = random.below(sample.bytes.len());
@@ -282,6 +285,18 @@ pub fn any(random: &mut Random) -> Vec<u8> {
         }
         _ => sample.bytes = garbage(random),
     }
+    sample.bytes
+}
+
+/// A file of a valid chain, packed or not.
+pub fn of(random: &mut Random, chain: &Chain) -> Vec<u8> {
+    Sample::of(random, chain).bytes
+}
+
+/// A file of a valid chain with one to three faults.
+pub fn damaged(random: &mut Random, chain: &Chain) -> Vec<u8> {
+    let mut sample = Sample::of(random, chain);
+    sample.damage(random);
     sample.bytes
 }
 

@@ -9,7 +9,7 @@ use std::os::fd::OwnedFd;
 use std::os::unix::net::UnixStream;
 use std::process::{Child, Command};
 use std::time::Duration;
-use yardstick::{packed_length, Chain, ChainAnswer, LengthAnswer, MAX_QUEUES};
+use yardstick::{packed_length, AnalysisAnswer, Chain, ChainAnswer, LengthAnswer, MAX_QUEUES};
 
 /// How long the command may take to go on with a request or an answer.
 const PATIENCE: Duration = Duration::from_secs(60);
@@ -47,6 +47,10 @@ pub struct Large {
     pub first: Vec<u8>,
     /// The answer of reading the memory after that.
     pub read: ChainAnswer,
+    /// The answer of reporting on the packed file to the memory, which is zeros again.
+    pub reported: LengthAnswer,
+    /// The first bytes of the memory after that.
+    pub text: Vec<u8>,
 }
 
 /// A command that makes the library's calls.
@@ -99,7 +103,32 @@ impl Library {
         Ok(answer)
     }
 
-    /// Writes a chain to so many zero bytes and reads them; nothing if they can't be had.
+    /// The analysis of a chain.
+    pub fn analyse(&mut self, chain: &Chain) -> Result<AnalysisAnswer, Lost> {
+        self.ask(&[b"a", chain.bytes()])?;
+        let mut answer = AnalysisAnswer::default();
+        self.take(answer.bytes_mut())?;
+        Ok(answer)
+    }
+
+    /// The report on a file, at the start of `out`.
+    pub fn report(&mut self, file: &mut Lent, out: &mut Lent) -> Result<LengthAnswer, Lost> {
+        self.ask(&[
+            b"p",
+            &lengths(file),
+            &file.memory,
+            &lengths(out),
+            &out.memory,
+        ])?;
+        let mut answer = LengthAnswer::default();
+        self.take(answer.bytes_mut())?;
+        self.take(&mut file.memory)?;
+        self.take(&mut out.memory)?;
+        Ok(answer)
+    }
+
+    /// Writes a chain to so many zero bytes, reads them, and reports to them on the chain's packed
+    /// file; nothing if they can't be had.
     pub fn large(&mut self, chain: &Chain, length: u64) -> Result<Option<Large>, Lost> {
         self.ask(&[b"l", chain.bytes(), &length.to_le_bytes()])?;
         let mut had = [0];
@@ -111,10 +140,14 @@ impl Library {
             written: LengthAnswer::default(),
             first: vec![0; packed_length(MAX_QUEUES)],
             read: ChainAnswer::default(),
+            reported: LengthAnswer::default(),
+            text: vec![0; packed_length(MAX_QUEUES)],
         };
         self.take(large.written.bytes_mut())?;
         self.take(&mut large.first)?;
         self.take(large.read.bytes_mut())?;
+        self.take(large.reported.bytes_mut())?;
+        self.take(&mut large.text)?;
         Ok(Some(large))
     }
 

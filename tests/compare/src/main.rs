@@ -4,36 +4,43 @@
 //! The command runs tests/calls.c, which has the library's calls. The last line is `N passed, M
 //! failed`, N being the inputs on which the two agree.
 
+mod analysed;
 mod comparison;
 mod files;
 mod lent;
 mod library;
 mod plain;
 mod records;
+mod sights;
 mod tally;
 
-use compare::chains::wide;
+use analysed::Request;
+use compare::loaded::accepted;
 use compare::random::Random;
-use comparison::{hex, Failure};
+use comparison::{decimal, hex, Failure};
 use library::{Library, Lost};
 use plain::Plain;
 use records::Record;
+use sights::{Analyses, Reports};
 use std::env;
 use std::ffi::OsString;
 use std::process::ExitCode;
 use tally::Tally;
-use yardstick::packed_length;
+use yardstick::{packed_length, Chain, MAX_QUEUES};
 
 /// The seed of a run that is given none.
 const SEED: u64 = 1;
 
-/// The random files, records and factory numbers of a run.
+/// The random files, records and factory numbers of a run, the chains that are analysed and the
+/// files that are reported on.
 const FILES: usize = 300_000;
 const RECORDS: usize = 250_000;
 const FACTORY_NUMBERS: usize = 20_000;
+const ANALYSES: usize = 240_000;
+const REPORTS: usize = 160_000;
 
 /// The fewest inputs that make a run.
-const FEWEST: u64 = 200_000;
+const FEWEST: u64 = 1_000_000;
 
 /// The most differences that are shown.
 const SHOWN: u64 = 5;
@@ -45,6 +52,8 @@ struct Run {
     reads: Tally,
     writes: Tally,
     factories: Tally,
+    analyses: Analyses,
+    reports: Reports,
     passed: u64,
     failed: u64,
 }
@@ -58,6 +67,8 @@ impl Run {
             reads: Tally::default(),
             writes: Tally::default(),
             factories: Tally::default(),
+            analyses: Analyses::default(),
+            reports: Reports::default(),
             passed: 0,
             failed: 0,
         }
@@ -80,6 +91,8 @@ impl Run {
         self.compare_reads()?;
         self.compare_writes()?;
         self.compare_factories()?;
+        self.compare_analyses()?;
+        self.compare_reports()?;
         self.compare_large()
     }
 
@@ -155,10 +168,56 @@ impl Run {
         self.settle(result, || format!("factory: {number:08x}"))
     }
 
-    /// Compares reader and writer on lent memory whose length, cut to 32 bits, would be that of a
-    /// packed file.
+    /// Compares the analysis on chains.
+    fn compare_analyses(&mut self) -> Result<(), Lost> {
+        for chain in analysed::limits(&mut self.random) {
+            self.compare_analysis(&chain)?;
+        }
+        for record in records::limits(&mut self.random) {
+            self.compare_analysis(&record.chain)?;
+        }
+        for i in 0..ANALYSES {
+            let chain = analysed::any(&mut self.random, 1 + i % MAX_QUEUES);
+            self.compare_analysis(&chain)?;
+        }
+        Ok(())
+    }
+
+    /// Compares the analysis on one chain.
+    fn compare_analysis(&mut self, chain: &Chain) -> Result<(), Lost> {
+        let result = comparison::analyse(&mut self.library, &mut self.analyses, chain);
+        self.settle(result, || format!("analyse: {}", decimal(chain.bytes())))
+    }
+
+    /// Compares the report on files.
+    fn compare_reports(&mut self) -> Result<(), Lost> {
+        for request in analysed::request_limits(&mut self.random) {
+            self.compare_report(&request)?;
+        }
+        for i in 0..REPORTS {
+            let request = analysed::any_request(&mut self.random, 1 + i % MAX_QUEUES);
+            self.compare_report(&request)?;
+        }
+        Ok(())
+    }
+
+    /// Compares the report on one file.
+    fn compare_report(&mut self, request: &Request) -> Result<(), Lost> {
+        let result = comparison::report(
+            &mut self.library,
+            &mut self.reports,
+            &mut self.random,
+            request,
+        );
+        self.settle(result, || {
+            format!("report, room {}: {}", request.room, hex(&request.file))
+        })
+    }
+
+    /// Compares reader, writer and report on lent memory whose length, cut to 32 bits, would be
+    /// that of a packed file.
     fn compare_large(&mut self) -> Result<(), Lost> {
-        let chain = wide(1);
+        let chain = accepted(&mut self.random, 1);
         let length = (1 << 32) + packed_length(1) as u64;
         let Some(large) = self.library.large(&chain, length)? else {
             println!("no memory of more than 2^32 bytes can be had: such lengths are not compared");
@@ -171,6 +230,10 @@ impl Run {
         let result = comparison::read_large(&mut self.reads, &large);
         self.settle(result, || {
             format!("read, {length} bytes: {} and zeros", hex(&large.first))
+        })?;
+        let result = comparison::report_large(&chain, &large);
+        self.settle(result, || {
+            format!("report, room {length}: {}", hex(&large.first))
         })
     }
 
@@ -198,19 +261,21 @@ impl Run {
         Ok(())
     }
 
-    /// Prints what was seen, and counts as failed each number that a call never answered with and a
-    /// short run.
+    /// Prints what was seen, and counts as failed each thing that was never seen though it must be,
+    /// and a short run.
     fn close(&mut self) {
         let inputs = self.passed + self.failed;
-        let calls: [(&str, &Tally, &[u32]); 3] = [
-            ("read", &self.reads, &[0, 1, 2, 3, 4, 5]),
-            ("write", &self.writes, &[0, 2, 4, 5, 10]),
-            ("factory", &self.factories, &[0, 14]),
+        let mut lines = vec![
+            self.reads.line("read", [0, 1, 2, 3, 4, 5]),
+            self.writes.line("write", [0, 2, 4, 5, 10]),
+            self.factories.line("factory", [0, 14]),
         ];
-        for (call, seen, numbers) in calls {
-            println!("{call}: {seen}");
-            for number in seen.missing(numbers) {
-                println!("failed: {call} never answered with {number}");
+        lines.extend(self.analyses.lines());
+        lines.extend(self.reports.lines());
+        for line in lines {
+            println!("{}: {}", line.name, line.seen);
+            for missing in line.missing {
+                println!("failed: {}: never seen: {missing}", line.name);
                 self.failed += 1;
             }
         }

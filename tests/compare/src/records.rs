@@ -45,7 +45,7 @@ fn put_threshold(chain: &mut Chain, row: usize, words: [u32; 2]) {
 }
 
 /// A chain with random words in its slots past n.
-fn littered(random: &mut Random, mut chain: Chain) -> Chain {
+pub fn littered(random: &mut Random, mut chain: Chain) -> Chain {
     for row in chain.n as usize..MAX_QUEUES {
         for i in 0..5 {
             *field(&mut chain, row, i) = any_word(random);
@@ -93,7 +93,7 @@ fn any_chain(random: &mut Random, n: usize) -> Chain {
 
 /// Places one fault in a chain of n rows: in n, period, a queue's field, an execution time, or a
 /// consume.
-fn place_fault(random: &mut Random, chain: &mut Chain, n: usize) {
+pub fn place_fault(random: &mut Random, chain: &mut Chain, n: usize) {
     let row = random.below(n);
     match random.below(8) {
         0 => chain.n = outside(random, 1..=MAX_QUEUES as u32),

@@ -1,37 +1,56 @@
-//! How often a call answered with each refusal number.
+//! How often something was seen.
 
 use std::collections::BTreeMap;
-use std::fmt;
+use std::fmt::{self, Display};
 
-/// The numbers of one call and how often each was seen; 0 is a call that was not refused.
-#[derive(Default)]
-pub struct Tally {
-    seen: BTreeMap<u32, u64>,
+/// The things of one kind and how often each was seen: of the numbers that a call answered with, 0
+/// is a call that was not refused.
+pub struct Tally<T = u32> {
+    seen: BTreeMap<T, u64>,
 }
 
-impl Tally {
-    /// Counts one answer.
-    pub fn count(&mut self, number: u32) {
-        *self.seen.entry(number).or_default() += 1;
-    }
+/// What was seen of one kind of things, and what was not though it must be.
+pub struct Line {
+    pub name: &'static str,
+    pub seen: String,
+    pub missing: Vec<String>,
+}
 
-    /// Those of some numbers that were never seen.
-    pub fn missing(&self, numbers: &[u32]) -> Vec<u32> {
-        numbers
-            .iter()
-            .copied()
-            .filter(|number| !self.seen.contains_key(number))
-            .collect()
+impl<T> Default for Tally<T> {
+    /// Nothing was seen.
+    fn default() -> Self {
+        Tally {
+            seen: BTreeMap::new(),
+        }
     }
 }
 
-impl fmt::Display for Tally {
+impl<T: Ord + Display> Tally<T> {
+    /// Counts one.
+    pub fn count(&mut self, thing: T) {
+        *self.seen.entry(thing).or_default() += 1;
+    }
+
+    /// The line of a kind of things, some of which must have been seen.
+    pub fn line(&self, name: &'static str, due: impl IntoIterator<Item = T>) -> Line {
+        let missing = due
+            .into_iter()
+            .filter(|thing| !self.seen.contains_key(thing));
+        Line {
+            name,
+            seen: self.to_string(),
+            missing: missing.map(|thing| thing.to_string()).collect(),
+        }
+    }
+}
+
+impl<T: Display> Display for Tally<T> {
     /// `0 x12, 1 x34`.
     fn fmt(&self, line: &mut fmt::Formatter) -> fmt::Result {
         let counts: Vec<String> = self
             .seen
             .iter()
-            .map(|(number, count)| format!("{number} x{count}"))
+            .map(|(thing, count)| format!("{thing} x{count}"))
             .collect();
         line.write_str(&counts.join(", "))
     }
