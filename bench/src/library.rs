@@ -1,10 +1,17 @@
 //! The library's calls that are measured: as the header declares them, and as Rust functions.
 
-use yardstick::{Chain, ChainAnswer, LengthAnswer};
+use yardstick::{AnalysisAnswer, Chain, ChainAnswer, LengthAnswer};
 
 extern "C" {
     pub fn ardenquill_read(file: *const u8, file_length: usize) -> ChainAnswer;
     pub fn ardenquill_write(chain: Chain, out: *mut u8, out_length: usize) -> LengthAnswer;
+    pub fn ardenquill_analyse(chain: Chain) -> AnalysisAnswer;
+    pub fn ardenquill_report(
+        file: *const u8,
+        file_length: usize,
+        out: *mut u8,
+        out_length: usize,
+    ) -> LengthAnswer;
 }
 
 /// The chain of a file.
@@ -17,4 +24,17 @@ pub fn read(file: &[u8]) -> ChainAnswer {
 pub fn write(chain: &Chain, out: &mut [u8]) -> LengthAnswer {
     // SAFETY: pointer and length are those of a slice that is lent for the call.
     unsafe { ardenquill_write(*chain, out.as_mut_ptr(), out.len()) }
+}
+
+/// The analysis of a chain.
+pub fn analyse(chain: &Chain) -> AnalysisAnswer {
+    // SAFETY: the call takes any chain.
+    unsafe { ardenquill_analyse(*chain) }
+}
+
+/// The report on a file, at the start of `out`.
+pub fn report(file: &[u8], out: &mut [u8]) -> LengthAnswer {
+    // SAFETY: pointers and lengths are those of two slices, of which the call only reads the first
+    // and is lent the second.
+    unsafe { ardenquill_report(file.as_ptr(), file.len(), out.as_mut_ptr(), out.len()) }
 }

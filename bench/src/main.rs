@@ -1,17 +1,20 @@
-//! Measures reading and writing: nanoseconds per call of the library and of the yardstick, and
-//! their ratio, on the same inputs in one run.
+//! Measures reading, writing, analysing and reporting: nanoseconds per call of the library and of
+//! the yardstick, and their ratio, on the same inputs in one run.
 
 mod library;
 
 use compare::chains::valid;
+use compare::loaded::accepted;
 use compare::packed::packed_file;
 use compare::random::Random;
-use library::{ardenquill_read, ardenquill_write};
+use library::{ardenquill_analyse, ardenquill_read, ardenquill_report, ardenquill_write};
 use std::fmt::Debug;
 use std::hint::black_box;
 use std::slice;
 use std::time::Instant;
-use yardstick::{packed_length, Chain, ChainAnswer, LengthAnswer, MAX_QUEUES};
+use yardstick::{
+    packed_length, AnalysisAnswer, Chain, ChainAnswer, LengthAnswer, LONGEST_REPORT, MAX_QUEUES,
+};
 
 /// The different inputs of one line, called one after the other in a ring.
 const INPUTS: usize = 64;
@@ -27,6 +30,12 @@ type Read = unsafe extern "C" fn(*const u8, usize) -> ChainAnswer;
 
 /// The call that writes a file.
 type Write = unsafe extern "C" fn(Chain, *mut u8, usize) -> LengthAnswer;
+
+/// The call that analyses a chain.
+type Analyse = unsafe extern "C" fn(Chain) -> AnalysisAnswer;
+
+/// The call that reports on a file.
+type Report = unsafe extern "C" fn(*const u8, usize, *mut u8, usize) -> LengthAnswer;
 
 /// The yardstick's reader behind the same boundary as the library's. The bytes must be readable.
 #[inline(never)]
@@ -44,9 +53,33 @@ unsafe extern "C" fn yardstick_write(
     yardstick::write(&chain, slice::from_raw_parts_mut(out, out_length))
 }
 
+/// The yardstick's analysis behind the same boundary as the library's.
+#[inline(never)]
+unsafe extern "C" fn yardstick_analyse(chain: Chain) -> AnalysisAnswer {
+    yardstick::analyse(&chain)
+}
+
+/// The yardstick's report behind the same boundary as the library's. The bytes of the file must be
+/// readable, those lent writable.
+#[inline(never)]
+unsafe extern "C" fn yardstick_report(
+    file: *const u8,
+    file_length: usize,
+    out: *mut u8,
+    out_length: usize,
+) -> LengthAnswer {
+    let file = slice::from_raw_parts(file, file_length);
+    yardstick::report(file, slice::from_raw_parts_mut(out, out_length))
+}
+
 /// Random valid chains of n queues.
 fn chains(random: &mut Random, n: usize) -> Vec<Chain> {
     (0..INPUTS).map(|_| valid(random, n)).collect()
+}
+
+/// Random chains of n queues that the analysis accepts.
+fn accepted_chains(random: &mut Random, n: usize) -> Vec<Chain> {
+    (0..INPUTS).map(|_| accepted(random, n)).collect()
 }
 
 /// The chains with a consume above its threshold in the last row, and nowhere else.
@@ -123,6 +156,46 @@ fn write_line(name: &str, chains: &[Chain], lacking: usize, number: u32) {
     });
 }
 
+/// Prints the line of analysing some chains, each of which must be accepted.
+fn analyse_line(name: &str, chains: &[Chain]) {
+    for chain in chains {
+        let answer = same(library::analyse(chain), yardstick::analyse(chain));
+        due(answer.number, 0);
+    }
+    let calls = [ardenquill_analyse as Analyse, yardstick_analyse];
+    line("analyse", name, |side| {
+        for chain in chains {
+            // SAFETY: the call takes any chain.
+            let answer = unsafe { calls[side](*black_box(chain)) };
+            black_box(&answer);
+        }
+    });
+}
+
+/// Prints the line of reporting on some files to enough room, each of which must be accepted.
+fn report_line(name: &str, files: &[Vec<u8>]) {
+    let mut texts = [[0; LONGEST_REPORT]; 2];
+    for file in files {
+        let [ours, theirs] = &mut texts;
+        let answer = same(library::report(file, ours), yardstick::report(file, theirs));
+        due(answer.number, 0);
+        let length = answer.length as usize;
+        same(&ours[..length], &theirs[..length]);
+    }
+    let [out, _] = &mut texts;
+    let calls = [ardenquill_report as Report, yardstick_report];
+    line("report", name, |side| {
+        for file in files {
+            let (file, out) = (black_box(file.as_slice()), black_box(out.as_mut_slice()));
+            let (lent, room) = (out.as_mut_ptr(), out.len());
+            // SAFETY: pointers and lengths are those of two slices, of which the call only reads
+            // the first and is lent the second.
+            let answer = unsafe { calls[side](file.as_ptr(), file.len(), lent, room) };
+            black_box(&answer);
+        }
+    });
+}
+
 /// Prints one line, given what goes once through the ring on a side: 0 library, 1 yardstick. The
 /// sides take turns, and so does who begins.
 fn line(call: &str, name: &str, mut ring: impl FnMut(usize)) {
@@ -138,7 +211,7 @@ fn line(call: &str, name: &str, mut ring: impl FnMut(usize)) {
     }
     let [library, yardstick] = best;
     let ratio = library / yardstick;
-    println!("{call:<6}{name:<28}{library:>9.1}{yardstick:>11.1}{ratio:>8.2}");
+    println!("{call:<9}{name:<28}{library:>9.1}{yardstick:>11.1}{ratio:>8.2}");
 }
 
 /// Prints what is measured, and the heads of the columns.
@@ -153,10 +226,10 @@ fn heading() {
         "Both are release builds, called through a C function pointer with the same signature."
     );
     println!(
-        "No buffer is cleared in the timed part, on either side; each call makes its whole answer."
+        "No lent buffer is cleared in the timed part, on either side; each call makes its whole answer."
     );
     println!(
-        "{:<6}{:<28}{:>9}{:>11}{:>8}",
+        "{:<9}{:<28}{:>9}{:>11}{:>8}",
         "call", "input", "library", "yardstick", "ratio"
     );
 }
@@ -177,4 +250,11 @@ fn main() {
     }
     write_line("n = 16, refused 10", largest, 1, 10);
     write_line("n = 16, refused 5, last row", &bad, 0, 5);
+    let sized = [4, MAX_QUEUES].map(|n| accepted_chains(&mut random, n));
+    for chains in &sized {
+        analyse_line(&format!("n = {}", chains[0].n), chains);
+    }
+    for chains in &sized {
+        report_line(&format!("n = {}", chains[0].n), &files(chains));
+    }
 }
