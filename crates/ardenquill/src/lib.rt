@@ -4,6 +4,7 @@ ghost use mathlib.Core.Path.{_≡_};
 ghost use lib.ListN.{length};
 ghost use Rattle.ardenquill.specs.Files.{readAnswer, packed, writeRefusal, Output};
 ghost use Rattle.ardenquill.specs.Chains.{factoryAnswer};
+ghost use Rattle.ardenquill.specs.Analyses.{analyseAnswer};
 pub use chain::Chain;
 pub use chain::ChainAnswer;
 pub use chain::Queue;
@@ -11,6 +12,11 @@ pub use chain::factory;
 pub use chainfile::LengthAnswer;
 pub use chainfile::read;
 pub use chainfile::write;
+pub use sizing::Analysis;
+pub use sizing::AnalysisAnswer;
+pub use sizing::QueueSize;
+pub use sizing::analyse;
+pub use sizing::checked_for_run;
 
 // The chain of a file, or the first of 1 to 5 that refuses it.
 #[no_mangle]
@@ -34,4 +40,12 @@ pub extern "C" fn ardenquill_factory(number: u32) -> ChainAnswer
     ensures { λ r. ⌜ r ≡ factoryAnswer number ⌝ }
 {
     factory(number)
+}
+
+// The analysis of a chain, or the first of 2, 4, 5, 6 and 7 that refuses it.
+#[no_mangle]
+pub extern "C" fn ardenquill_analyse(chain: Chain) -> AnalysisAnswer
+    ensures { λ r. ⌜ r ≡ analyseAnswer chain ⌝ }
+{
+    analyse(chain)
 }

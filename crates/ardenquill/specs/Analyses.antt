@@ -1,0 +1,12 @@
+-- What the public calls promise of an analysis, handed on from the crates `arith`, `onequeue`, `rates` and `sizing`.
+pub use Rattle.arith.specs.Division.{ceil, ceil-above, ceil-least, ceil-unique}
+pub use Rattle.arith.specs.Gcd.{gcd, gcd-dvd-left, gcd-dvd-right, gcd-greatest, gcd-unique}
+pub use Rattle.onequeue.specs.Residue.{residue, Largest, residue-largest, largest-unique, residue-000, residue-004, residue-floor, residue-rest}
+pub use Rattle.onequeue.specs.Minimum.{minimum, minimum-is, minimum-produce, minimum-threshold, minimum-bound, naming, Reaches, naming-is, naming-pos, naming-fits}
+pub use Rattle.onequeue.specs.Capacity.{capacity, capacity-written, capacity-minimum, margin, margin-over, margin-under, margin-balance, margin-zero, margin-negative, short-is}
+pub use Rattle.rates.specs.Rates.{common, nextX, nextY, stretch}
+pub use Rattle.sizing.specs.Nodes.{xOf, yOf, stretchOf, x-pos, y-pos, y-stretch, y-multiple, y-source, tokens-balance, cycle-least}
+pub use Rattle.sizing.specs.Load.{busyIn, busyOf, cycleOf, parts-exact}
+pub use Rattle.sizing.specs.Sizes.{start, minimumOf, namingOf, capacityOf, marginOf, sizeBy, sizeOf, noSize, emptyAnalysis, analysisOf, sized, refusedWith, size-at}
+pub use Rattle.sizing.specs.Checks.{limit, fast, rateTest, rateCheck, loadCheck, capacityTest, capacityCheck, sizeChecks, analyseChecks, analyseRefusal, analyseAnswer, runChecks, runRefusal, runAnswer, Slow, FirstFast, Short, Enough, FirstShort, analyse-2, analyse-4, analyse-5, analyse-6, analyse-7, run-parts, run-8}
+pub use Rattle.sizing.specs.Accepted.{Accepted, analyse-accepts, run-accepts, SizeFits, size-fits, busy-fits, cycle-fits}
