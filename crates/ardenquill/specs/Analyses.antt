@@ -1,4 +1,5 @@
--- What the public calls promise of an analysis, handed on from the crates `arith`, `onequeue`, `rates` and `sizing`.
+-- What the public calls promise of an analysis, handed on from the crates `arith`, `onequeue`, `rates` and `sizing`. What a call
+-- answers is handed on unfoldable, so that a figure can be computed.
 pub use Rattle.arith.specs.Division.{ceil, ceil-above, ceil-least, ceil-unique}
 pub use Rattle.arith.specs.Gcd.{gcd, gcd-dvd-left, gcd-dvd-right, gcd-greatest, gcd-unique}
 pub use Rattle.onequeue.specs.Residue.{residue, Largest, residue-largest, largest-unique, residue-000, residue-004, residue-floor, residue-rest}
@@ -8,5 +9,6 @@ pub use Rattle.rates.specs.Rates.{common, nextX, nextY, stretch}
 pub use Rattle.sizing.specs.Nodes.{xOf, yOf, stretchOf, x-pos, y-pos, y-stretch, y-multiple, y-source, tokens-balance, cycle-least}
 pub use Rattle.sizing.specs.Load.{busyIn, busyOf, cycleOf, parts-exact}
 pub use Rattle.sizing.specs.Sizes.{start, minimumOf, namingOf, capacityOf, marginOf, sizeBy, sizeOf, noSize, emptyAnalysis, analysisOf, sized, refusedWith, size-at}
-pub use Rattle.sizing.specs.Checks.{limit, fast, rateTest, rateCheck, loadCheck, capacityTest, capacityCheck, sizeChecks, analyseChecks, analyseRefusal, analyseAnswer, runChecks, runRefusal, runAnswer, Slow, FirstFast, Short, Enough, FirstShort, analyse-2, analyse-4, analyse-5, analyse-6, analyse-7, run-parts, run-8}
+unfoldable pub use Rattle.sizing.specs.Checks.{analyseRefusal, analyseAnswer, runRefusal, runAnswer}
+pub use Rattle.sizing.specs.Checks.{limit, fast, rateTest, rateCheck, loadCheck, capacityTest, capacityCheck, sizeChecks, analyseChecks, runChecks, Slow, FirstFast, Short, Enough, FirstShort, analyse-2, analyse-4, analyse-5, analyse-6, analyse-7, run-parts, run-8}
 pub use Rattle.sizing.specs.Accepted.{Accepted, analyse-accepts, run-accepts, SizeFits, size-fits, busy-fits, cycle-fits}

@@ -1,5 +1,5 @@
 -- What the public calls promise of chains, refusals and factory chains, handed on from the crates `words` and `chain`.
-pub use Rattle.words.specs.Flat.{flat}
+unfoldable pub use Rattle.words.specs.Flat.{flat}
 pub use Rattle.words.specs.Table.{tab, slots}
 pub use Rattle.words.specs.Rows.{none, row}
 pub use Rattle.chain.specs.Tests.{outside, Out, In}
@@ -7,4 +7,5 @@ pub use Rattle.chain.specs.Refusals.{refused, fine, test, orElse, first, Silent
 pub use Rattle.chain.specs.Record.{rowOf, workOf, emptyChain, trimmed, answered}
 pub use Rattle.chain.specs.Checks.{Field, field, ticks, rowFields, fields, row-values, row-places, countCheck, outOfRange, rangeCheck, overdrawn, orderCheck, recordRange, recordOrder, chainChecks, chainRefusal, FieldOut, FieldIn, fieldAt, FirstOut, FirstOver, record-2, record-4, record-5}
 pub use Rattle.chain.specs.Sound.{SoundRow, Sound, sound}
-pub use Rattle.chain.specs.Factory.{queue, made, factoryChains, factoryCheck, factoryRefusal, factoryAnswer, factory-exact, trimmed-factory}
+pub use Rattle.chain.specs.Factory.{queue, made, factoryChains, factoryCheck, factory-exact, trimmed-factory}
+unfoldable pub use Rattle.chain.specs.Factory.{factoryRefusal, factoryAnswer}

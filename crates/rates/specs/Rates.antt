@@ -5,6 +5,7 @@
 --                            the rate of the node behind the queue
 --   stretch p c x            how many times y the new y is
 --   rateAfter p c x y        the three together, as code has them
+--   permeate-figure          the rate that a spreadsheet's g gets wrong, computed
 --   next-stretch             the new y is `stretch` times y
 --   next-balance             in `stretch` times y ticks the node takes out exactly what was put in
 --   stretch-least            and in no smaller number of y can it: the rate is not 003's with another g
@@ -47,6 +48,11 @@ stretch p c x = c / common p c x
 unfoldable pub rateAfter : ℕ → ℕ → ℕ → ℕ → Rate
 unfolding nextX nextY stretch
 rateAfter p c x y = record { x = nextX p c x; y = nextY p c x y; stretch = stretch p c x }
+
+-- Permeate's second node has 6 per 15 (P2); g from p and c alone would give it 12 per 30
+pub permeate-figure : (nextX 3 2 4 ≡ 6) × (nextY 3 2 4 15 ≡ 15)
+unfolding nextX nextY
+permeate-figure = (refl, refl)
 
 -- a number that is b times q, over b
 exact : (a b q : ℕ) → 0 < b → a ≡ b * q → a / b ≡ q

@@ -1,0 +1,88 @@
+-- The figures that the scope marks P, in one table under one statement: each row's answer is what the call answers.
+--   table                    the questions with their answers
+--   same, right, all-right   the computed test
+--   right-rows               what the test decides
+--   figures                  the statement
+use mathlib.Core.Path.{_≡_, refl, ap₂}
+use mathlib.Core.Bool.{Bool, true, false, _&&_}
+use mathlib.Core.List.{List, [], _∷_}
+use Prim.Native.Nat.{ℕ, zero, suc, _<_}
+use native.Mathlib.Omega.{arith}
+use lib.Dec.{T, eqb, eqb→eq}
+use lib.ListN.{length, getD}
+use Rattle.ardenquill.specs.Chains.{queue, made, factoryAnswer}
+use Rattle.chain.specs.declared.Chain.{Chain}
+use Rattle.figures.specs.Questions.{Question, analyse, answerTo}
+
+-- the factory chains, and what the figures change in them
+abbrev pub feed : Chain
+feed = factoryAnswer 0 .chain
+
+abbrev pub permeate : Chain
+permeate = factoryAnswer 1 .chain
+
+abbrev pub flush : Chain
+flush = factoryAnswer 2 .chain
+
+abbrev pub permeateWritten : Chain
+permeateWritten = made 5 (queue 4 7 3 12 ∷ queue 3 4 2 5 ∷ []) (1 ∷ 1 ∷ [])
+
+abbrev pub feedConsuming : ℕ → Chain
+feedConsuming c = made 10 (queue 4 7 c 0 ∷ []) (2 ∷ [])
+
+abbrev pub slowest : Chain
+slowest = made 1000000 (queue 1 65521 65521 0 ∷ []) (1 ∷ [])
+
+-- an answer: number, place, n; for each queue x, y, minimum, naming count, capacity, sign and size of the margin; busy, cycle
+abbrev pub table : List (Question × List ℕ)
+table =
+    -- P1, and P6's 4
+    (analyse feed, (0 ∷ 0 ∷ 1 ∷ 4 ∷ 30 ∷ 10 ∷ 4 ∷ 10 ∷ 0 ∷ 0 ∷ 8 ∷ 30 ∷ []))
+    -- P2
+    ∷ (analyse permeate, (0 ∷ 0 ∷ 2 ∷ 4 ∷ 15 ∷ 10 ∷ 4 ∷ 10 ∷ 0 ∷ 0 ∷ 6 ∷ 15 ∷ 6 ∷ 3 ∷ 6 ∷ 0 ∷ 0 ∷ 10 ∷ 15 ∷ []))
+    -- P3, and P6's 4 and 8
+    ∷ (analyse flush, (0 ∷ 0 ∷ 2 ∷ 1 ∷ 100 ∷ 64 ∷ 4 ∷ 64 ∷ 0 ∷ 0 ∷ 1 ∷ 800 ∷ 8 ∷ 8 ∷ 8 ∷ 0 ∷ 0 ∷ 43 ∷ 800 ∷ []))
+    -- P4: margins 2 and -1
+    ∷ (analyse permeateWritten, (0 ∷ 0 ∷ 2 ∷ 4 ∷ 15 ∷ 10 ∷ 4 ∷ 12 ∷ 0 ∷ 2 ∷ 6 ∷ 15 ∷ 6 ∷ 3 ∷ 5 ∷ 1 ∷ 1 ∷ 10 ∷ 15 ∷ []))
+    -- P9: c = τ is accepted, c = τ + 1 refused 5 at the place of c
+    ∷ (analyse (feedConsuming 7), (0 ∷ 0 ∷ 1 ∷ 4 ∷ 70 ∷ 10 ∷ 7 ∷ 10 ∷ 0 ∷ 0 ∷ 8 ∷ 70 ∷ []))
+    ∷ (analyse (feedConsuming 8), (5 ∷ 28 ∷ 0 ∷ 0 ∷ 0 ∷ []))
+    -- P10: y would be 65,521,000,000
+    ∷ (analyse slowest, (6 ∷ 1 ∷ 0 ∷ 0 ∷ 0 ∷ []))
+    ∷ []
+
+-- whether two lists of numbers are the same
+unfoldable pub same : List ℕ → List ℕ → Bool
+same [] [] = true
+same [] (n ∷ ns) = false
+same (m ∷ ms) [] = false
+same (m ∷ ms) (n ∷ ns) = eqb m n && same ms ns
+
+-- whether each row's answer is what the call answers
+unfoldable pub allRight : List (Question × List ℕ) → Bool
+unfolding same answerTo
+allRight [] = true
+allRight (r ∷ rs) = same (r .1) (answerTo (r .0)) && allRight rs
+
+both : (a b : Bool) → T (a && b) → T a × T b
+both true b h = (tt, h)
+both false b h = absurd h
+
+same-is : (ms ns : List ℕ) → T (same ms ns) → ms ≡ ns
+unfolding same
+same-is [] [] h = refl
+same-is [] (n ∷ ns) h = absurd h
+same-is (m ∷ ms) [] h = absurd h
+same-is (m ∷ ms) (n ∷ ns) h = let p = both (eqb m n) (same ms ns) h in ap₂ _∷_ (eqb→eq m n (p .0)) (same-is ms ns (p .1))
+
+-- what the test decides: row i's answer is what the call answers
+right-rows : (rs : List (Question × List ℕ)) (d : Question × List ℕ) → T (allRight rs) → (i : ℕ) → i < length rs → getD rs i d .1 ≡ answerTo (getD rs i d .0)
+unfolding allRight
+right-rows [] d h i l = absurd (omega arith)
+right-rows (r ∷ rs) d h zero l = same-is (r .1) (answerTo (r .0)) (both (same (r .1) (answerTo (r .0))) (allRight rs) h .0)
+right-rows (r ∷ rs) d h (suc i) l = right-rows rs d (both (same (r .1) (answerTo (r .0))) (allRight rs) h .1) i (omega arith)
+
+-- every figure of the table is right
+pub figures : (i : ℕ) → i < length table → getD table i (analyse feed, []) .1 ≡ answerTo (getD table i (analyse feed, []) .0)
+unfolding allRight factoryAnswer
+figures = right-rows table (analyse feed, []) tt

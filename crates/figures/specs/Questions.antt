@@ -1,0 +1,38 @@
+-- A question is a public call with what it is handed; its answer is the call's own definition, as a list of numbers.
+--   Question, answerTo q     a call, and what it answers
+--   signed z                 a number with its sign: 0 and z, or 1 and how far z is below 0
+--   sizes q, analysed a      a queue's line as numbers: x, y, minimum, naming count, capacity, signed margin; and the whole answer:
+--                            number, place, n, the first n lines, busy, cycle
+use mathlib.Core.List.{List, [], _∷_, _++_}
+use Prim.Native.Nat.{ℕ, suc}
+use lib.ListN.{getD}
+use lib.IntN.{ℤ, pos, negsuc}
+use Rattle.ardenquill.specs.Chains.{flat}
+use Rattle.ardenquill.specs.Analyses.{noSize, analyseAnswer}
+use Rattle.chain.specs.declared.Chain.{Chain}
+use Rattle.sizing.specs.declared.QueueSize.{QueueSize}
+use Rattle.sizing.specs.declared.AnalysisAnswer.{AnalysisAnswer}
+
+-- a call with its arguments
+pub data Question : Type 0 where
+  analyse : Chain → Question
+
+-- 0 and z, or 1 and how far z is below 0
+unfoldable pub signed : ℤ → List ℕ
+signed (pos n) = 0 ∷ n ∷ []
+signed (negsuc n) = 1 ∷ suc n ∷ []
+
+-- a queue's line as numbers
+unfoldable pub sizes : QueueSize → List ℕ
+unfolding signed
+sizes q = q .x ∷ q .y ∷ q .minimum ∷ q .by ∷ q .capacity ∷ signed (q .margin)
+
+-- the whole answer as numbers; a refused one has n = 0
+unfoldable pub analysed : AnalysisAnswer → List ℕ
+unfolding flat sizes
+analysed r = r .number ∷ r .place ∷ r .analysis .n ∷ (flat (λ i. sizes (getD (r .analysis .queues) i noSize)) (r .analysis .n) ++ (r .analysis .busy ∷ r .analysis .cycle ∷ []))
+
+-- what the call answers
+unfoldable pub answerTo : Question → List ℕ
+unfolding analysed analyseAnswer
+answerTo (analyse c) = analysed (analyseAnswer c)
