@@ -14,11 +14,11 @@
 --   by-parts                 the same numbers by the gcd of p and c, and of x and what that leaves of c
 --   Step q x                 what the code of a step asks
 use mathlib.Core.Path.{_≡_, refl, sym, ap, _∙_}
-use Prim.Native.Nat.{ℕ, _+_, _*_, _/_, _≤_, _<_, _∣_}
-use native.Mathlib.Nat.{le-refl, mul-pos, div-le-self, div-div-eq-div-mul, dvd-trans, dvd-mul-left, dvd-of-mul-dvd-mul-left, le-of-dvd, mul-one, eq-of-mul-eq-mul-left}
+use Prim.Native.Nat.{ℕ, _*_, _/_, _≤_, _<_, _∣_}
+use native.Mathlib.Nat.{mul-pos, div-le-self, div-div-eq-div-mul, dvd-mul-left, dvd-of-mul-dvd-mul-left, le-of-dvd, mul-one, eq-of-mul-eq-mul-left}
 use native.Mathlib.Omega.{arith}
 use Rattle.arith.specs.Division.{floor-unique}
-use Rattle.arith.specs.Gcd.{gcd, gcd-pos-left, gcd-pos-right, gcd-mul-left, gcd-mul-right, gcd-greatest, cofactor-pos}
+use Rattle.arith.specs.Gcd.{gcd, gcd-pos-right, gcd-mul-left, gcd-mul-right, gcd-greatest, cofactor-pos}
 use Rattle.arith.specs.Products.{gcd-scale, gcd-product}
 use Rattle.onequeue.specs.Known.{Known}
 use Rattle.onequeue.specs.declared.Row.{Row}

@@ -8,7 +8,7 @@ use Rattle.chain.specs.Faults.{Few}
 use Rattle.chain.specs.declared.Refusal.{Refusal}
 use Rattle.chain.specs.declared.Chain.{Chain}
 use Rattle.sizing.specs.Sizes.{analysisOf, sized, sized-refused, sized-fine, refusedWith}
-use Rattle.sizing.specs.Checks.{sizeChecks, analyseChecks, analyseRefusal, analyseAnswer, capacityTest, capacityCheck, runRefusal, runAnswer, shortIn, short-is-capacity, analyse-parts, run-parts}
+use Rattle.sizing.specs.Checks.{sizeChecks, analyseChecks, analyseRefusal, analyseAnswer, capacityTest, capacityCheck, runAnswer, shortIn, short-is-capacity, analyse-parts, run-parts}
 use Rattle.sizing.specs.declared.AnalysisAnswer.{AnalysisAnswer}
 
 module _ (c : Chain) where

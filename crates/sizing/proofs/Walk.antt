@@ -24,7 +24,6 @@ use Rattle.sizing.specs.Sizes.{rowBy, row-known, sizeBy, sizeOf, noSize,
 use Rattle.sizing.specs.Checks.{limit, fast, fast-true, fast-false, Slow, FirstFast, sizeChecks, rateCheck, loadCheck, rate-exact, rates-silent, load-exact, load-silent}
 use Rattle.sizing.specs.declared.QueueSize.{QueueSize}
 use Rattle.sizing.specs.declared.Analysis.{Analysis}
-use Rattle.sizing.specs.declared.AnalysisAnswer.{AnalysisAnswer}
 
 -- the first i slots filled, the load not yet known
 abbrev pub filled : Chain → ℕ → Analysis

@@ -7,23 +7,21 @@
 --   busy-fits, cycle-fits    the load
 use mathlib.Core.Path.{_≡_, refl, sym}
 use mathlib.Core.Bool.{Bool, true, false, cond}
-use mathlib.Core.Logic.{_↔_, Iff·trans, Iff·and, Iff·rfl}
-use mathlib.Core.List.{[], _∷_}
+use mathlib.Core.Logic.{_↔_, Iff·trans, Iff·and}
 use Prim.Native.Nat.{ℕ, zero, suc, _-_, _≤_, _<_}
 use native.Mathlib.Nat.{le-trans}
 use native.Mathlib.Omega.{arith}
 use lib.Dec.{ltb}
 use borrow.Author.Tests.{ltb-true}
 use lib.IntN.{pos, negsuc, natAbs}
-use Rattle.chain.specs.Refusals.{Silent, Silents, silent-as, first, first-silent, or-silents}
-use Rattle.chain.specs.Record.{rowOf}
+use Rattle.chain.specs.Refusals.{Silent, Silents, silent-as, first-silent, or-silents}
 use Rattle.chain.specs.Sound.{Sound, sound}
 use Rattle.chain.specs.declared.Chain.{Chain}
 use Rattle.onequeue.specs.Capacity.{margin}
-use Rattle.sizing.specs.Nodes.{xOf, yOf}
+use Rattle.sizing.specs.Nodes.{yOf}
 use Rattle.sizing.specs.Load.{busyOf, cycleOf}
 use Rattle.sizing.specs.Sizes.{sizeBy, sizeOf, minimum-most, naming-most, capacity-most}
-use Rattle.sizing.specs.Checks.{limit, Slow, Enough, sizeChecks, rateCheck, loadCheck, analyseRefusal, runRefusal, capacityCheck, analyse-parts, run-parts, rates-silent, load-silent, capacity-silent}
+use Rattle.sizing.specs.Checks.{limit, Slow, Enough, sizeChecks, analyseRefusal, runRefusal, capacityCheck, analyse-parts, run-parts, rates-silent, load-silent, capacity-silent}
 use Rattle.sizing.specs.declared.QueueSize.{QueueSize}
 
 -- "a chain it doesn't refuse is accepted"

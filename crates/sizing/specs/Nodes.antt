@@ -6,9 +6,9 @@
 --   y-multiple               each y is a multiple of every y before it; y-source: and so of the period
 --   tokens-balance           what N_(i+1) takes out per tick is what N_i puts in
 --   cycle-least              in no smaller multiple of y_i is that a whole number of firings
-use mathlib.Core.Path.{_≡_, ap, _∙_}
-use Prim.Native.Nat.{ℕ, zero, suc, _+_, _*_, _≤_, _<_, _∣_}
-use native.Mathlib.Nat.{le-refl, mul-pos, dvd-refl, dvd-trans, dvd-mul-left, eq-or-lt-of-le}
+use mathlib.Core.Path.{_≡_, ap}
+use Prim.Native.Nat.{ℕ, zero, suc, _*_, _≤_, _<_, _∣_}
+use native.Mathlib.Nat.{mul-pos, dvd-refl, dvd-trans, dvd-mul-left, eq-or-lt-of-le}
 use mathlib.Core.Logic.{⊎-elim}
 use native.Mathlib.Omega.{arith}
 use Rattle.chain.specs.Record.{rowOf}

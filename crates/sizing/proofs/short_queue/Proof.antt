@@ -1,14 +1,13 @@
 -- `sizing::short_queue` meets its contract: before queue i is looked at, none before it is short.
-use mathlib.Core.Path.{_≡_, refl, sym}
-use Prim.Native.Nat.{ℕ, _+_, _-_, _≤_, _<_}
+use mathlib.Core.Path.{refl, sym}
+use Prim.Native.Nat.{ℕ, _-_, _≤_, _<_}
 use native.Mathlib.Nat.{eq-or-lt-of-le}
 use native.Mathlib.Omega.{arith}
 use mathlib.Core.Logic.{⊎-elim}
 use borrow.Author.Needs.{needs}
 use borrow.Author.Tests.{lt-ltb, le-ltb}
-use Rattle.chain.specs.Refusals.{refused, fine, Silent, first-fine, lowest-is, all-silent, test-exact, test-silent}
+use Rattle.chain.specs.Refusals.{Silent, first-fine, lowest-is, all-silent, test-exact, test-silent}
 use Rattle.words.specs.Table.{tab}
-use Rattle.sizing.specs.Sizes.{noSize}
 use Rattle.sizing.specs.Checks.{shortIn, shortTest}
 use Rattle.sizing.specs.declared.Analysis.{Analysis}
 use Rattle.sizing.proofs.short_queue.Statement.{statement}

@@ -1,5 +1,5 @@
 -- `sizing::size_of` meets its contract: each number of the line is its queue's, and the margin fits 32 bits.
-use mathlib.Core.Path.{_≡_, sym, ap, ap₂, _∙_}
+use mathlib.Core.Path.{_≡_, ap, ap₂, _∙_}
 use Prim.Native.Nat.{ℕ}
 use native.Mathlib.Nat.{le-trans}
 use native.Mathlib.Omega.{arith}
@@ -13,8 +13,7 @@ use Rattle.onequeue.specs.Known.{Known}
 use Rattle.onequeue.specs.Minimum.{minimum, naming}
 use Rattle.onequeue.specs.Capacity.{capacity, margin, Within}
 use Rattle.onequeue.specs.declared.Row.{Row}
-use Rattle.sizing.specs.Sizes.{rowBy, row-known, Parted, sizeBy, minimumOf, namingOf, capacityOf, minimum-most, capacity-most}
-use Rattle.sizing.specs.declared.QueueSize.{QueueSize}
+use Rattle.sizing.specs.Sizes.{rowBy, row-known, Parted, sizeBy, minimumOf, capacityOf, minimum-most, capacity-most}
 use Rattle.sizing.proofs.size_of.Statement.{statement}
 use Rattle.sizing.proofs.size_of.Tie as tie
 
