@@ -1,2 +1,2 @@
 mod Reading
-mod Writing
+pub mod Writing

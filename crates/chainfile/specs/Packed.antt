@@ -7,6 +7,8 @@
 --   roomCheck need room  10: lent output shorter than what would be written
 --   writeChecks c room   the writer's checks, in order
 --   writeRefusal c room  what the writer refuses c with, the lent output being `room` bytes long
+--   notWritten N L, written k
+--                        the answer of a call that refuses to write, and of one that wrote k bytes
 --   Output r t o p a     what a call that writes a text t into lent bytes o answers and leaves there, its refusal being r
 --   output-fine          what it is where nothing is refused
 --   room-exact, -only    10 is said exactly under its condition, and no other number is
@@ -70,6 +72,13 @@ unfoldable pub writeRefusal : Chain → ℕ → Refusal
 unfolding first rangeCheck orderCheck
 writeRefusal c room = first (writeChecks c room)
 
+-- "a refusal gives number and place, all other results zero"
+abbrev pub notWritten : ℕ → ℕ → LengthAnswer
+notWritten N L = record { number = N; place = L; length = 0 }
+
+abbrev pub written : ℕ → LengthAnswer
+written k = record { number = 0; place = 0; length = k }
+
 -- a call that writes: the answer is the refusal, or the text's length; the lent bytes o become p,
 -- the text first and every byte past it as it was, or all of them as they were where it refuses
 pub record Output (r : Refusal) (t o p : List ℕ) (a : LengthAnswer) : Type 0 where
@@ -77,7 +86,7 @@ pub record Output (r : Refusal) (t o p : List ℕ) (a : LengthAnswer) : Type 0 w
   pub bytes : p ≡ cond (eqb (r .number) 0) (t ++ drop (length t) o) o
 
 -- a call that wrote: its answer, and what became of the lent bytes
-pub output-fine : {r : Refusal} {t o p : List ℕ} {a : LengthAnswer} → r ≡ fine → Output r t o p a → (a ≡ record { number = 0; place = 0; length = length t }) × (p ≡ t ++ drop (length t) o)
+pub output-fine : {r : Refusal} {t o p : List ℕ} {a : LengthAnswer} → r ≡ fine → Output r t o p a → (a ≡ written (length t)) × (p ≡ t ++ drop (length t) o)
 output-fine {r} {t} {o} {p} {a} e w = let v : Output fine t o p a = rw e at w in (v .answer, v .bytes)
 
 pub room-exact : (L need room : ℕ) → (roomCheck need room ≡ refused 10 L) ↔ ((room < need) × (L ≡ need))

@@ -13,26 +13,13 @@ pub fn write(chain: Chain, out: &mut [u8]) -> LengthAnswer
 {
     let wrong = chain::check_chain(chain);
     if wrong.number != 0 {
-        return LengthAnswer {
-            number: wrong.number,
-            place: wrong.place,
-            length: 0,
-        };
+        return crate::refused(wrong.number, wrong.place);
     }
     let need = 20 + 24 * (chain.n as usize);
     if out.len() < need {
-        return LengthAnswer {
-            number: 10,
-            place: need as u32,
-            length: 0,
-        };
+        return crate::refused(10, need as u32);
     }
-    let end = put_chain(chain, out);
-    LengthAnswer {
-        number: 0,
-        place: 0,
-        length: end as u64,
-    }
+    crate::written(put_chain(chain, out))
 }
 
 // Writes a chain where there is room for it, and answers the place behind it.

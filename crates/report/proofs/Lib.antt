@@ -1,0 +1,3 @@
+mod Lines
+mod Compared
+mod Ways

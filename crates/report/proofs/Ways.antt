@@ -1,0 +1,62 @@
+-- The report call's ways out, as its code has them: the reader refuses; 6 or 7 does; or the text of the analysis is written.
+use mathlib.Core.Path.{_≡_, sym, ap, _∙_}
+use mathlib.Core.List.{List, [], _∷_, _++_}
+use Prim.Native.Nat.{ℕ, _≤_}
+use borrow.Author.Tests.{eq-eqb}
+use lib.ListN.{length}
+use Rattle.chain.specs.Refusals.{refused, first, orElse, Silent, first-append, or-left, or-right}
+use Rattle.chain.specs.Record.{answered}
+use Rattle.chain.specs.Sound.{Sound}
+use Rattle.chain.specs.declared.Refusal.{Refusal}
+use Rattle.chain.specs.declared.Chain.{Chain}
+use Rattle.chain.specs.declared.ChainAnswer.{ChainAnswer}
+use Rattle.chainfile.specs.File.{chainOf, readChecks, readRefusal, readAnswer}
+use Rattle.chainfile.specs.Accepted.{read-accepts}
+use Rattle.chainfile.specs.Packed.{roomCheck, notWritten, Output}
+use Rattle.chainfile.specs.declared.LengthAnswer.{LengthAnswer}
+use Rattle.chainfile.proofs.Writing.{output-refused, room-last}
+use Rattle.sizing.specs.Sizes.{analysisOf, sized}
+use Rattle.sizing.specs.Checks.{sizeChecks}
+use Rattle.sizing.specs.declared.Analysis.{Analysis}
+use Rattle.sizing.specs.declared.AnalysisAnswer.{AnalysisAnswer}
+use Rattle.report.specs.Text.{textOf}
+use Rattle.report.specs.Checks.{reportText, reportRefusal}
+
+-- 6 and 7 of the chain that a file says
+sizeRefusal : List ℕ → Refusal
+sizeRefusal f = first (sizeChecks (chainOf f))
+
+-- the list of checks is the reader's, then 6 and 7, then 10
+report-parts : (f : List ℕ) (room : ℕ) → reportRefusal f room ≡ orElse (readRefusal f) (orElse (sizeRefusal f) (roomCheck (length (reportText f)) room))
+unfolding reportRefusal readRefusal sizeRefusal
+report-parts f room =
+    first-append (readChecks f) (sizeChecks (chainOf f) ++ (roomCheck (length (reportText f)) room ∷ []))
+    ∙ ap (orElse (readRefusal f)) (room-last (sizeChecks (chainOf f)) (length (reportText f)) room)
+
+-- the reader has answered for f, and then the sizing
+module _ (f o : List ℕ) {a : ChainAnswer} (is : a ≡ readAnswer f) where
+  read-says : refused (a .number) (a .place) ≡ readRefusal f
+  unfolding readAnswer answered
+  read-says = ap (λ (x : ChainAnswer). refused (x .number) (x .place)) is
+
+  pub read-refused : {r : LengthAnswer} → (a .number ≡ 0 → ⊥) → r ≡ notWritten (a .number) (a .place) → Output (reportRefusal f (length o)) (reportText f) o o r
+  read-refused n e = output-refused (reportText f) o (or-left _ read-says n ∙ sym (report-parts f (length o))) n e
+
+  module _ (z : a .number ≡ 0) where
+    read-silent : Silent (readRefusal f)
+    read-silent = sym (ap (λ (x : Refusal). x .number) read-says) ∙ z
+
+    read-chain : a .chain ≡ chainOf f
+    unfolding readAnswer answered
+    read-chain = ap (λ (x : ChainAnswer). x .chain) is ∙ simp (eq-eqb _ _ read-silent)
+
+    pub read-sound : Sound (a .chain)
+    read-sound = rw read-chain (read-accepts f .0 read-silent .chain)
+
+    module _ {s : AnalysisAnswer} (made : s ≡ sized (first (sizeChecks (a .chain))) (a .chain)) where
+      size-says : refused (s .number) (s .place) ≡ sizeRefusal f
+      unfolding sized sizeRefusal
+      size-says = ap (λ (x : AnalysisAnswer). refused (x .number) (x .place)) made ∙ ap (λ (c : Chain). first (sizeChecks c)) read-chain
+
+      pub size-refused : {r : LengthAnswer} → (s .number ≡ 0 → ⊥) → r ≡ notWritten (s .number) (s .place) → Output (reportRefusal f (length o)) (reportText f) o o r
+      size-refused n e = output-refused (reportText f) o (or-right read-says z (or-left _ size-says n) ∙ sym (report-parts f (length o))) n e

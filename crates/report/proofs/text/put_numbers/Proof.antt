@@ -1,0 +1,47 @@
+-- `report::text::put_numbers` meets its contract: five numbers, one writer after the other.
+use borrow.Author.Needs.{needs}
+use native.Mathlib.Omega.{arith}
+use Rattle.words.specs.Put.{then}
+use Rattle.report.specs.Text.{numbers}
+use Rattle.report.proofs.text.put_numbers.Statement.{statement}
+use Rattle.report.proofs.text.put_numbers.Tie as tie
+
+put-field-requires : tie.Need-put-field-requires
+put-field-requires c κs = search needs
+
+put-field-requires-2 : tie.Need-put-field-requires-2
+put-field-requires-2 c κs = search needs
+
+put-field-requires-3 : tie.Need-put-field-requires-3
+put-field-requires-3 c κs = search needs
+
+put-field-requires-4 : tie.Need-put-field-requires-4
+put-field-requires-4 c κs = search needs
+
+put-field-requires-5 : tie.Need-put-field-requires-5
+put-field-requires-5 c κs = search needs
+
+same-length : tie.Need-same-length
+same-length c = search needs
+
+returns : tie.Need-returns
+unfolding numbers
+returns c =
+    let c5 = c .before .before in
+    let c4 = c5 .before .before .before .before in
+    let c3 = c4 .before .before .before .before in
+    let c2 = c3 .before .before .before .before in
+    let c1 = c2 .before .before .before .before in
+    (then (c1 .put-field .ensures .0) (then (c2 .put-field2 .ensures .0) (then (c3 .put-field3 .ensures .0) (then (c4 .put-field4 .ensures .0) (c5 .put-field5 .ensures .0)))), omega arith)
+
+pub put-numbers-spec : {M : Type 1} → statement M
+put-numbers-spec =
+    tie.close
+    (tie.spec
+    put-field-requires
+    put-field-requires-2
+    put-field-requires-3
+    put-field-requires-4
+    put-field-requires-5
+    same-length
+    returns)

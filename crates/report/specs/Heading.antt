@@ -1,0 +1,46 @@
+-- The first line, which is always the same (01, Report program).
+--   begins s t      the text t begins with s
+--   begins-true     that is so exactly where the first bytes of t are s
+--   headed t        the text t begins with a report's first line
+--   headed-true     that is so exactly where its first 34 bytes are that line
+--   report-headed   every report begins with it
+use mathlib.Core.Path.{_≡_, refl, sym, ap, ap₂}
+use mathlib.Core.Bool.{Bool, true, false, _&&_, true≢false}
+use mathlib.Core.Logic.{_↔_, Iff·trans}
+use mathlib.Core.List.{List, [], _∷_, _++_}
+use Prim.Native.Nat.{ℕ}
+use native.Mathlib.Omega.{arith}
+use lib.Dec.{eqb}
+use borrow.Author.Tests.{eq-eqb, eqb-true}
+use lib.ListN.{length, getD, take, drop}
+use Rattle.chain.specs.Tests.{and-true}
+use Rattle.sizing.specs.declared.Analysis.{Analysis}
+use Rattle.report.specs.Text.{heading, textOf}
+
+-- a text begins with another
+unfoldable pub begins : List ℕ → List ℕ → Bool
+begins [] t = true
+begins (a ∷ s) [] = false
+begins (a ∷ s) (b ∷ t) = eqb a b && begins s t
+
+pub begins-true : (s t : List ℕ) → (begins s t ≡ true) ↔ (take (length s) t ≡ s)
+unfolding begins
+begins-true [] t = (λ e. refl, λ e. refl)
+begins-true (a ∷ s) [] = (λ e. absurd (true≢false (sym e)), λ e. absurd (omega (arith, ap length e)))
+begins-true (a ∷ s) (b ∷ t) = Iff·trans (and-true (λ e. eqb-true a b e, λ e. eq-eqb a b e) (begins-true s t)) (
+  λ h. ap₂ _∷_ (sym (h .0)) (h .1),
+  λ e. (sym (ap (λ (l : List ℕ). getD l 0 0) e), ap (λ (l : List ℕ). drop 1 l) e),
+)
+
+-- a text begins with a report's first line
+unfoldable pub headed : List ℕ → Bool
+unfolding begins
+headed t = begins heading t
+
+pub headed-true : (t : List ℕ) → (headed t ≡ true) ↔ (take 34 t ≡ heading)
+unfolding headed
+headed-true t = begins-true heading t
+
+pub report-headed : (a : Analysis) → headed (textOf a) ≡ true
+unfolding headed textOf
+report-headed a = headed-true (textOf a) .1 refl

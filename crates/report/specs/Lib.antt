@@ -1,0 +1,7 @@
+pub mod Text
+pub mod Heading
+pub mod Feeds
+pub mod Refused
+pub mod Checks
+pub mod Short
+pub mod Figures

@@ -1,0 +1,60 @@
+// The report's lines, written one behind the other where there is room for the longest report.
+ghost use Prim.Native.Nat.{_+_, _*_, _≤_};
+ghost use lib.ListN.{length};
+ghost use Rattle.words.specs.Put.{Room, Puts};
+ghost use Rattle.report.specs.Text.{numbers, line, lines, textOf};
+use sizing::Analysis;
+use sizing::QueueSize;
+
+// The first line of every report.
+pub const HEADING: [u8; 34] = *b"queue,x,y,minimum,capacity,margin\n";
+
+// Writes the whole report of an analysis to the front of `out`, and answers its length.
+pub fn put_text(out: &mut [u8], analysis: Analysis) -> usize
+    requires { ⌜ (analysis .n ≤ 16) × Room (now out) 0 1133 ⌝ }
+    ensures { λ r. ⌜ Puts (now (out .entry)) 0 (textOf analysis) (now (out .exit)) r × (r ≤ 1133) ⌝ }
+{
+    let a = decimal::put_bytes(out, 0, &HEADING);
+    let b = put_lines(out, a, analysis);
+    let c = decimal::put_bytes(out, b, b"busy,");
+    let d = decimal::put_field(out, c, analysis.busy, b',');
+    decimal::put_field(out, d, analysis.cycle, b'\n')
+}
+
+// Writes a line for each queue at `at`.
+fn put_lines(out: &mut [u8], at: usize, analysis: Analysis) -> usize
+    requires { ⌜ (analysis .n ≤ 16) × Room (now out) at (67 * analysis .n) ⌝ }
+    ensures { λ r. ⌜ Puts (now (out .entry)) at (lines analysis (analysis .n)) (now (out .exit)) r × (r ≤ at + 67 * analysis .n) ⌝ }
+{
+    let n = analysis.n as usize;
+    let mut i = 0;
+    let mut k = at;
+    while i < n {
+        let q = analysis.queues[i];
+        k = put_line(out, k, i as u32, q);
+        i += 1;
+    }
+    k
+}
+
+// Writes queue i's line at `at`.
+fn put_line(out: &mut [u8], at: usize, i: u32, q: QueueSize) -> usize
+    requires { ⌜ Room (now out) at 67 ⌝ }
+    ensures { λ r. ⌜ Puts (now (out .entry)) at (line i q) (now (out .exit)) r × (r ≤ at + 67) ⌝ }
+{
+    let a = put_numbers(out, at, i, q);
+    let b = decimal::put_integer(out, a, q.margin);
+    decimal::put_byte(out, b, b'\n')
+}
+
+// Writes the numbers of queue i's line before its margin, a comma behind each.
+fn put_numbers(out: &mut [u8], at: usize, i: u32, q: QueueSize) -> usize
+    requires { ⌜ Room (now out) at 55 ⌝ }
+    ensures { λ r. ⌜ Puts (now (out .entry)) at (numbers i q) (now (out .exit)) r × (r ≤ at + 55) ⌝ }
+{
+    let a = decimal::put_field(out, at, i, b',');
+    let b = decimal::put_field(out, a, q.x, b',');
+    let c = decimal::put_field(out, b, q.y, b',');
+    let d = decimal::put_field(out, c, q.minimum, b',');
+    decimal::put_field(out, d, q.capacity, b',')
+}
