@@ -1,5 +1,5 @@
 -- The report call's ways out, as its code has them: the reader refuses; 6 or 7 does; or the text of the analysis is written.
-use mathlib.Core.Path.{_≡_, sym, ap, _∙_}
+use mathlib.Core.Path.{_≡_, refl, sym, ap, _∙_}
 use mathlib.Core.List.{List, [], _∷_, _++_}
 use Prim.Native.Nat.{ℕ, _≤_}
 use borrow.Author.Tests.{eq-eqb}
@@ -34,13 +34,13 @@ report-parts f room =
     ∙ ap (orElse (readRefusal f)) (room-last (sizeChecks (chainOf f)) (length (reportText f)) room)
 
 -- the reader has answered for f, and then the sizing
-module _ (f o : List ℕ) {a : ChainAnswer} (is : a ≡ readAnswer f) where
+module _ (f : List ℕ) {a : ChainAnswer} (is : a ≡ readAnswer f) where
   read-says : refused (a .number) (a .place) ≡ readRefusal f
   unfolding readAnswer answered
   read-says = ap (λ (x : ChainAnswer). refused (x .number) (x .place)) is
 
-  pub read-refused : {r : LengthAnswer} → (a .number ≡ 0 → ⊥) → r ≡ notWritten (a .number) (a .place) → Output (reportRefusal f (length o)) (reportText f) o o r
-  read-refused n e = output-refused (reportText f) o (or-left _ read-says n ∙ sym (report-parts f (length o))) n e
+  pub read-refused : {o : List ℕ} {r : LengthAnswer} → (a .number ≡ 0 → ⊥) → r ≡ notWritten (a .number) (a .place) → Output (reportRefusal f (length o)) (reportText f) o o r
+  read-refused {o} n e = output-refused (reportText f) o (or-left _ read-says n ∙ sym (report-parts f (length o))) n e
 
   module _ (z : a .number ≡ 0) where
     read-silent : Silent (readRefusal f)
@@ -58,5 +58,24 @@ module _ (f o : List ℕ) {a : ChainAnswer} (is : a ≡ readAnswer f) where
       unfolding sized sizeRefusal
       size-says = ap (λ (x : AnalysisAnswer). refused (x .number) (x .place)) made ∙ ap (λ (c : Chain). first (sizeChecks c)) read-chain
 
-      pub size-refused : {r : LengthAnswer} → (s .number ≡ 0 → ⊥) → r ≡ notWritten (s .number) (s .place) → Output (reportRefusal f (length o)) (reportText f) o o r
-      size-refused n e = output-refused (reportText f) o (or-right read-says z (or-left _ size-says n) ∙ sym (report-parts f (length o))) n e
+      pub size-refused : {o : List ℕ} {r : LengthAnswer} → (s .number ≡ 0 → ⊥) → r ≡ notWritten (s .number) (s .place) → Output (reportRefusal f (length o)) (reportText f) o o r
+      size-refused {o} n e = output-refused (reportText f) o (or-right read-says z (or-left _ size-says n) ∙ sym (report-parts f (length o))) n e
+
+      module _ (y : s .number ≡ 0) where
+        size-silent : Silent (first (sizeChecks (a .chain)))
+        unfolding sized
+        size-silent = sym (ap (λ (x : AnalysisAnswer). x .number) made) ∙ y
+
+        size-analysis : s .analysis ≡ analysisOf (chainOf f)
+        unfolding sized
+        size-analysis = ap (λ (x : AnalysisAnswer). x .analysis) made ∙ simp (eq-eqb _ _ size-silent) (ap analysisOf read-chain)
+
+        pub few-queues : s .analysis .n ≤ 16
+        unfolding analysisOf
+        few-queues = rw size-analysis (read-accepts f .0 read-silent .chain .count .1)
+
+        room-left : (room : ℕ) → roomCheck (length (reportText f)) room ≡ reportRefusal f room
+        room-left room = or-right read-says z (or-right size-says y refl) ∙ sym (report-parts f room)
+
+        pub text-written : {o p : List ℕ} {r : LengthAnswer} → Output (roomCheck (length (textOf (s .analysis))) (length o)) (textOf (s .analysis)) o p r → Output (reportRefusal f (length o)) (reportText f) o p r
+        text-written {o} w = rw (← room-left (length o)) (rw size-analysis at w)

@@ -41,9 +41,22 @@ module _ (f : List ℕ) (room L : ℕ) where
 
   report-at : (k : ℕ) → k < 8 → (reportRefusal f room ≡ refused (getD order k 0) L) ↔ (Silents (take k (reportChecks f room)) × (getD (reportChecks f room) k fine ≡ refused (getD order k 0) L))
   unfolding reportRefusal Numbered order
-  report-at k l = exact-at order (reportChecks f room)
-      (length-only f, (count-only (countOf f), (offset-only (length f) (countOf f) (queuesAt f) (nodesAt f), (range-only (chainOf f) (queuesAt f) (nodesAt f), (order-only (chainOf f) (queuesAt f),
-      (rate-only (chainOf f), (load-only (chainOf f), (room-only (length (reportText f)) room, tt))))))))
+  report-at k l = exact-at order (reportChecks f room) (
+    length-only f,
+    (
+      count-only (countOf f),
+      (
+        offset-only (length f) (countOf f) (queuesAt f) (nodesAt f),
+        (
+          range-only (chainOf f) (queuesAt f) (nodesAt f),
+          (
+            order-only (chainOf f) (queuesAt f),
+            (rate-only (chainOf f), (load-only (chainOf f), (room-only (length (reportText f)) room, tt))),
+          ),
+        ),
+      ),
+    ),
+  )
       tt k L l
 
   pub report-1 : (reportRefusal f room ≡ refused 1 L) ↔ (BadLength f × (L ≡ 0))

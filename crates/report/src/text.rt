@@ -3,6 +3,7 @@ ghost use Prim.Native.Nat.{_+_, _*_, _≤_};
 ghost use lib.ListN.{length};
 ghost use Rattle.words.specs.Put.{Room, Puts};
 ghost use Rattle.report.specs.Text.{numbers, line, lines, textOf};
+ghost use Rattle.report.specs.Refused.{refusalText};
 use sizing::Analysis;
 use sizing::QueueSize;
 
@@ -57,4 +58,14 @@ fn put_numbers(out: &mut [u8], at: usize, i: u32, q: QueueSize) -> usize
     let c = decimal::put_field(out, b, q.y, b',');
     let d = decimal::put_field(out, c, q.minimum, b',');
     decimal::put_field(out, d, q.capacity, b',')
+}
+
+// Writes the line of a refusal to the front of `out`, and answers its length.
+pub fn put_refusal(out: &mut [u8], number: u32, place: u32) -> usize
+    requires { ⌜ Room (now out) 0 30 ⌝ }
+    ensures { λ r. ⌜ Puts (now (out .entry)) 0 (refusalText number place) (now (out .exit)) r × (r ≤ 30) ⌝ }
+{
+    let a = decimal::put_bytes(out, 0, b"refused,");
+    let b = decimal::put_field(out, a, number, b',');
+    decimal::put_field(out, b, place, b'\n')
 }
