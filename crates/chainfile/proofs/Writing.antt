@@ -1,20 +1,19 @@
 -- The writer's ways out, as its code has them, and how header and tables written one after the other make the packed file.
-use mathlib.Core.Path.{_≡_, sym, ap, _∙_}
+use mathlib.Core.Path.{_≡_, ap, _∙_}
 use mathlib.Core.List.{List, [], _∷_, _++_}
 use Prim.Native.Nat.{ℕ, _+_, _≤_, _<_}
 use native.Mathlib.Omega.{arith}
-use lib.Dec.{ltb}
 use borrow.Author.Tests.{ne-eqb, lt-ltb, le-ltb}
 use lib.ListN.{length}
 use Rattle.words.specs.Put.{Puts, puts-none, put-front}
 use Rattle.words.specs.Flat.{flat, flat-more}
 use Rattle.words.specs.Words.{bytesOf, then-words}
-use Rattle.chain.specs.Refusals.{refused, fine, first, orElse, Silent, first-append, test-alone}
+use Rattle.chain.specs.Refusals.{refused, fine, orElse, Silent}
 use Rattle.chain.specs.Checks.{chainChecks, chainRefusal}
 use Rattle.chain.specs.declared.Refusal.{Refusal}
 use Rattle.chain.specs.declared.Chain.{Chain}
 use Rattle.chainfile.specs.declared.LengthAnswer.{LengthAnswer}
-use Rattle.chainfile.specs.Packed.{packedLength, header, rows, nodes, packed, roomCheck, writeRefusal, notWritten, written, Output}
+use Rattle.chainfile.specs.Packed.{packedLength, header, rows, nodes, packed, roomCheck, room-last, writeRefusal, notWritten, written, Output}
 
 pub output-refused : {r s : Refusal} {a : LengthAnswer} (t o : List ℕ) → r ≡ s → (Silent r → ⊥) → a ≡ notWritten (r .number) (r .place) → Output s t o o a
 output-refused {r} t o e h g = rw (← e, g) (record { answer = simp (ne-eqb _ _ h); bytes = simp (ne-eqb _ _ h) })
@@ -22,15 +21,12 @@ output-refused {r} t o e h g = rw (← e, g) (record { answer = simp (ne-eqb _ _
 pub output-done : {s : Refusal} {t o p : List ℕ} {k : ℕ} {a : LengthAnswer} → fine ≡ s → length t ≤ length o → Puts o 0 t p k → a ≡ written k → Output s t o p a
 output-done {s} {t} {o} e l w g = rw (← e, g) (record { answer = ap written (omega (arith, w .next)); bytes = w .holds ∙ put-front o t l })
 
--- the two cases of the room, as code has them, and the room as the last check of a list
+-- the two cases of the room, as code has them
 pub room-short : (need room : ℕ) → room < need → refused 10 need ≡ roomCheck need room
 room-short need room h = simp (lt-ltb _ _ h)
 
 pub room-enough : (need room : ℕ) → need ≤ room → fine ≡ roomCheck need room
 room-enough need room h = simp (le-ltb _ _ h)
-
-pub room-last : (rs : List Refusal) (need room : ℕ) → first (rs ++ (roomCheck need room ∷ [])) ≡ orElse (first rs) (roomCheck need room)
-room-last rs need room = first-append rs (roomCheck need room ∷ []) ∙ ap (orElse (first rs)) (sym (test-alone 10 need (λ e. omega arith) (ltb room need)))
 
 pub write-parts : (c : Chain) (room : ℕ) → writeRefusal c room ≡ orElse (chainRefusal c) (roomCheck (packedLength (c .n)) room)
 unfolding writeRefusal chainRefusal

@@ -12,12 +12,13 @@
 --   Output r t o p a     what a call that writes a text t into lent bytes o answers and leaves there, its refusal being r
 --   output-fine          what it is where nothing is refused
 --   room-exact, -only    10 is said exactly under its condition, and no other number is
+--   room-last            10 is what the last check of a call says
 --   write-2, write-4, write-5, write-10
 --                        when a chain is refused with each number
 --   rows-, nodes-, packed-length, packed-parts
 --                        how long the tables and the file are, and what the file is made of
 --   TableFits, Fits      what the code of the writer asks: few queues, and room
-use mathlib.Core.Path.{_≡_, refl, ap, _∙_}
+use mathlib.Core.Path.{_≡_, refl, sym, ap, _∙_}
 use mathlib.Core.Bool.{cond}
 use mathlib.Core.Logic.{_↔_, Iff·trans, Iff·and, Iff·rfl, true-and}
 use mathlib.Core.List.{List, [], _∷_, _++_}
@@ -29,7 +30,7 @@ use Rattle.words.specs.Flat.{flat, flat-length}
 use Rattle.words.specs.Words.{bytesOf, bytes-append, bytes-length}
 use Rattle.words.specs.Rows.{row}
 use Rattle.chain.specs.Tests.{Out, below-true}
-use Rattle.chain.specs.Refusals.{Silents, Numbered, exact-at, refused, fine, test, first, Only, only-test, test-exact}
+use Rattle.chain.specs.Refusals.{Silents, Numbered, exact-at, refused, fine, test, first, orElse, first-append, test-alone, Only, only-test, test-exact}
 use Rattle.chain.specs.Record.{rowOf, workOf}
 use Rattle.chain.specs.Checks.{countCheck, chainChecks, rangeCheck, orderCheck, recordRange, recordOrder, fields, FirstOut, FirstOver, count-exact, range-exact, order-exact, count-only, range-only, order-only}
 use Rattle.chain.specs.declared.Refusal.{Refusal}
@@ -94,6 +95,10 @@ room-exact L need room = Iff·trans (test-exact 10 L need (λ e. omega arith) _)
 
 pub room-only : (need room : ℕ) → Only 10 (roomCheck need room)
 room-only need room = only-test 10 need (ltb room need)
+
+-- 10 as the last check of a call
+pub room-last : (rs : List Refusal) (need room : ℕ) → first (rs ++ (roomCheck need room ∷ [])) ≡ orElse (first rs) (roomCheck need room)
+room-last rs need room = first-append rs (roomCheck need room ∷ []) ∙ ap (orElse (first rs)) (sym (test-alone 10 need (λ e. omega arith) (ltb room need)))
 
 -- a chain is refused with a number exactly when no earlier check speaks and the number's own condition holds
 module _ (c : Chain) (room L : ℕ) where

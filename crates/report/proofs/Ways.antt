@@ -1,37 +1,26 @@
 -- The report call's ways out, as its code has them: the reader refuses; 6 or 7 does; or the text of the analysis is written.
 use mathlib.Core.Path.{_≡_, refl, sym, ap, _∙_}
-use mathlib.Core.List.{List, [], _∷_, _++_}
+use mathlib.Core.List.{List}
 use Prim.Native.Nat.{ℕ, _≤_}
 use borrow.Author.Tests.{eq-eqb}
 use lib.ListN.{length}
-use Rattle.chain.specs.Refusals.{refused, first, orElse, Silent, first-append, or-left, or-right}
+use Rattle.chain.specs.Refusals.{refused, first, Silent, or-left, or-right}
 use Rattle.chain.specs.Record.{answered}
 use Rattle.chain.specs.Sound.{Sound}
 use Rattle.chain.specs.declared.Refusal.{Refusal}
 use Rattle.chain.specs.declared.Chain.{Chain}
 use Rattle.chain.specs.declared.ChainAnswer.{ChainAnswer}
-use Rattle.chainfile.specs.File.{chainOf, readChecks, readRefusal, readAnswer}
+use Rattle.chainfile.specs.File.{chainOf, readRefusal, readAnswer}
 use Rattle.chainfile.specs.Accepted.{read-accepts}
 use Rattle.chainfile.specs.Packed.{roomCheck, notWritten, Output}
 use Rattle.chainfile.specs.declared.LengthAnswer.{LengthAnswer}
-use Rattle.chainfile.proofs.Writing.{output-refused, room-last}
+use Rattle.chainfile.proofs.Writing.{output-refused}
 use Rattle.sizing.specs.Sizes.{analysisOf, sized}
 use Rattle.sizing.specs.Checks.{sizeChecks}
 use Rattle.sizing.specs.declared.Analysis.{Analysis}
 use Rattle.sizing.specs.declared.AnalysisAnswer.{AnalysisAnswer}
 use Rattle.report.specs.Text.{textOf}
-use Rattle.report.specs.Checks.{reportText, reportRefusal}
-
--- 6 and 7 of the chain that a file says
-sizeRefusal : List ℕ → Refusal
-sizeRefusal f = first (sizeChecks (chainOf f))
-
--- the list of checks is the reader's, then 6 and 7, then 10
-report-parts : (f : List ℕ) (room : ℕ) → reportRefusal f room ≡ orElse (readRefusal f) (orElse (sizeRefusal f) (roomCheck (length (reportText f)) room))
-unfolding reportRefusal readRefusal sizeRefusal
-report-parts f room =
-    first-append (readChecks f) (sizeChecks (chainOf f) ++ (roomCheck (length (reportText f)) room ∷ []))
-    ∙ ap (orElse (readRefusal f)) (room-last (sizeChecks (chainOf f)) (length (reportText f)) room)
+use Rattle.report.specs.Checks.{reportText, sizeRefusal, reportRefusal, report-parts}
 
 -- the reader has answered for f, and then the sizing
 module _ (f : List ℕ) {a : ChainAnswer} (is : a ≡ readAnswer f) where

@@ -3,7 +3,8 @@
 --   begins-true     that is so exactly where the first bytes of t are s
 --   headed t        the text t begins with a report's first line
 --   headed-true     that is so exactly where its first 34 bytes are that line
---   report-headed   every report begins with it
+--   first-line      it is the first line of every report
+--   report-headed   a report with anything behind it begins with it
 use mathlib.Core.Path.{_≡_, refl, sym, ap, ap₂}
 use mathlib.Core.Bool.{Bool, true, false, _&&_, true≢false}
 use mathlib.Core.Logic.{_↔_, Iff·trans}
@@ -41,6 +42,11 @@ pub headed-true : (t : List ℕ) → (headed t ≡ true) ↔ (take 34 t ≡ head
 unfolding headed
 headed-true t = begins-true heading t
 
-pub report-headed : (a : Analysis) → headed (textOf a) ≡ true
-unfolding headed textOf
-report-headed a = headed-true (textOf a) .1 refl
+pub first-line : (a : Analysis) → take 34 (textOf a) ≡ heading
+unfolding textOf
+first-line a = refl
+
+-- and so does what a report was written to the front of
+pub report-headed : (a : Analysis) (rest : List ℕ) → headed (textOf a ++ rest) ≡ true
+unfolding textOf
+report-headed a rest = headed-true (textOf a ++ rest) .1 refl

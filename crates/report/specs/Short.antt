@@ -2,14 +2,13 @@
 --   SmallSize q, Small a   each number of a queue's line, and of an analysis, fits a word of 32 bits, and the queues are few
 --   line-short             a queue's line then has at most 67 bytes
 --   text-short             and the report at most 67 for each queue and 61 more
---   small                  the analysis of a chain that is not refused is small
+--   small                  the analysis of a chain that 1 to 7 do not refuse is small
 --   report-short           so its report has at most 1,133 bytes
---   report-room            and 1,133 lent bytes never meet 10
-use mathlib.Core.Path.{_≡_, refl, sym, ap, _∙_}
+--   report-room            and with 1,133 lent bytes the call never says 10
+use mathlib.Core.Path.{_≡_}
 use mathlib.Core.Bool.{Bool, true, false, cond}
 use mathlib.Core.List.{List, [], _∷_, _++_}
 use Prim.Native.Nat.{ℕ, zero, suc, _+_, _*_, _-_, _^_, _≤_, _<_}
-use native.Mathlib.Nat.{le-trans}
 use native.Mathlib.Omega.{arith}
 use lib.Dec.{ltb}
 use lib.ListN.{length, getD, length-append}
@@ -22,16 +21,17 @@ use Rattle.chain.specs.Refusals.{refused, Silents}
 use Rattle.chain.specs.Record.{rowOf}
 use Rattle.chain.specs.Sound.{Sound, SoundRow, sound-is}
 use Rattle.chain.specs.declared.Chain.{Chain}
-use Rattle.chainfile.specs.File.{queuesAt, nodesAt, chainOf, readChecks, readRefusal}
+use Rattle.chainfile.specs.File.{queuesAt, nodesAt, chainOf}
 use Rattle.onequeue.specs.Capacity.{margin}
 use Rattle.sizing.specs.Nodes.{xOf, yOf}
-use Rattle.sizing.specs.Load.{busyOf, cycleOf}
+use Rattle.sizing.specs.Load.{cycleOf}
 use Rattle.sizing.specs.Sizes.{noSize, minimumOf, capacityOf, sizeBy, analysisOf, size-at, minimum-most, capacity-most}
-use Rattle.sizing.specs.Checks.{limit, sizeChecks, Slow, rates-silent, load-silent}
+use Rattle.sizing.specs.Checks.{limit}
 use Rattle.sizing.specs.declared.QueueSize.{QueueSize}
 use Rattle.sizing.specs.declared.Analysis.{Analysis}
-use Rattle.report.specs.Text.{heading, numbers, line, lines, busyLine, textOf}
-use Rattle.report.specs.Checks.{reportText, reportRefusal, report-10}
+use Rattle.report.specs.Text.{numbers, line, lines, busyLine, textOf}
+use Rattle.report.specs.Checks.{reportRefusal, report-10}
+use Rattle.report.specs.Accepted.{Sizable, sizes-silent}
 
 -- each number of a queue's line fits a word of 32 bits, the margin with its sign
 pub record SmallSize (q : QueueSize) : Type 0 where
@@ -95,33 +95,31 @@ size-small q x y s hx hy =
     let k = capacity-most s in
     record { x = hx; y = hy; minimum = omega (arith, b); capacity = omega (arith, k); margin = margin-small (capacityOf q) (minimumOf q) (2 ^ 31) (omega (arith, k)) (omega (arith, b)) }
 
--- the analysis of a chain that 2, 4 and 5 have passed, and 6 and 7 too
-pub small : (c : Chain) → Sound c → Silents (sizeChecks c) → Small (analysisOf c)
-unfolding analysisOf Silents
+-- the analysis of a chain that 1 to 7 do not refuse
+pub small : (c : Chain) → Sound c → Sizable c → Small (analysisOf c)
+unfolding analysisOf
 small c s h =
-    let slow = rates-silent c .0 (h .0) in
-    let load : busyOf c ≤ cycleOf c = load-silent c .0 (h .1 .0) in
-    let top : cycleOf c ≤ limit = within slow (c .n) (s .count .0) (omega arith) in
+    let top : cycleOf c ≤ limit = within (c .n) (s .count .0) (omega arith) in
     record {
       few = s .count .1;
-      queues = λ i l. rw (size-at c i (s .count .1) l) (size-small (rowOf c i) (xOf c (suc i)) (yOf c (suc i)) (s .rows i l) (omega (arith, slow i l .0)) (omega (arith, slow i l .1)));
-      busy = omega arith;
+      queues = λ i l. rw (size-at c i (s .count .1) l) (size-small (rowOf c i) (xOf c (suc i)) (yOf c (suc i)) (s .rows i l) (omega (arith, h .0 i l .0)) (omega (arith, h .0 i l .1)));
+      busy = omega (arith, h .1);
       cycle = omega arith;
     }
   where
-    within : ((i : ℕ) → i < c .n → Slow c (suc i)) → (k : ℕ) → 1 ≤ k → k ≤ c .n → yOf c k ≤ limit
-    within slow zero some l = absurd (omega arith)
-    within slow (suc i) some l = slow i l .1
+    within : (k : ℕ) → 1 ≤ k → k ≤ c .n → yOf c k ≤ limit
+    within zero some l = absurd (omega arith)
+    within (suc i) some l = h .0 i l .1
 
--- of a file that 1 to 7 pass
-pub report-short : (f : List ℕ) → Silents (readChecks f ++ sizeChecks (chainOf f)) → length (reportText f) ≤ 1133
-unfolding Silents readRefusal
-report-short f h =
-    let s : Sound (chainOf f) = sound-is (chainOf f) (queuesAt f) (nodesAt f) .0 (h .1 .0, (h .1 .1 .1 .0, (h .1 .1 .1 .1 .0, tt))) in
-    let a : Small (analysisOf (chainOf f)) = small (chainOf f) s (h .1 .1 .1 .1 .1) in
-    omega (arith, text-short (analysisOf (chainOf f)) a, a .few)
+pub report-short : (c : Chain) → Sound c → Sizable c → length (textOf (analysisOf c)) ≤ 1133
+report-short c s h =
+    let a : Small (analysisOf c) = small c s h in
+    omega (arith, text-short (analysisOf c) a, a .few)
 
 pub report-room : (f : List ℕ) (room L : ℕ) → 1133 ≤ room → reportRefusal f room ≡ refused 10 L → ⊥
-report-room f room L h e =
+unfolding Silents
+report-room f room L l e =
     let t = report-10 f room L .0 e in
-    omega (arith, report-short f (t .0), t .1)
+    let h = t .0 in
+    let s : Sound (chainOf f) = sound-is (chainOf f) (queuesAt f) (nodesAt f) .0 (h .1 .0, (h .1 .1 .1 .0, (h .1 .1 .1 .1 .0, tt))) in
+    omega (arith, report-short (chainOf f) s (sizes-silent (chainOf f) .0 (h .1 .1 .1 .1 .1)), t .1)

@@ -1,3 +1,4 @@
+-- `report::write_text` meets its contract: the text goes straight into the lent bytes, or by its own buffer.
 use borrow.Author.Needs.{needs}
 use native.Mathlib.Omega.{arith}
 use mathlib.Core.Path.{sym}
@@ -9,25 +10,16 @@ use Rattle.chainfile.proofs.Writing.{output-done, room-enough}
 use Rattle.report.specs.Text.{textOf}
 use Rattle.report.proofs.write_text.Statement.{statement}
 use Rattle.report.proofs.write_text.Tie as tie
-use Rattle.report.proofs.write_text.Reads as reads
-use Rattle.report.proofs.write_text.Lts as lts
-use Rattle.chainfile.proofs.written.Reads as written-reads
-use Rattle.report.proofs.copy_text.Reads as copy-text-reads
-use Rattle.report.proofs.text.put_text.Reads as put-text-reads
 
--- src/lib.rt:65:35
 put-text-requires : tie.Need-put-text-requires
 put-text-requires c κs = search needs
 
--- src/lib.rt:65:9
 written-requires : tie.Need-written-requires
 written-requires c κs = search needs
 
--- src/lib.rt:65:9
 same-length : tie.Need-same-length
 same-length c = search needs
 
--- src/lib.rt:65:9
 returns : tie.Need-returns
 returns c =
     let p = c .before .before .before .put-text .ensures in
@@ -35,33 +27,26 @@ returns c =
     let fits : length (textOf (a .analysis)) ≤ length (a .out .now) = omega (arith, p .0 .next) in
     output-done (room-enough _ _ fits) fits (p .0) (c .written .ensures)
 
--- src/lib.rt:68:30
 slice-aggregate-put-text : tie.Need-slice-aggregate-put-text
 slice-aggregate-put-text c = search needs
 
--- src/lib.rt:68:9
 put-text-requires-2 : tie.Need-put-text-requires-2
 put-text-requires-2 c κs = search needs
 
--- src/lib.rt:69:15
 array-share-prefix-text : tie.Need-array-share-prefix-text
 array-share-prefix-text c = search needs
 
--- src/lib.rt:69:15
 slice-aggregate-copy-text : tie.Need-slice-aggregate-copy-text
 slice-aggregate-copy-text c = sym (length-take-le _ _ (search needs))
 
--- src/lib.rt:69:5
 copy-text-requires : tie.Need-copy-text-requires
 copy-text-requires c κs =
     let p = c .before .before .before .put-text2 .ensures in
     rw (taken (p .0) (p .1)) (omega arith)
 
--- src/lib.rt:60:1
 same-length-2 : tie.Need-same-length-2
 same-length-2 c = search needs
 
--- src/lib.rt:60:1
 returns-2 : tie.Need-returns-2
 returns-2 c =
     let p = c .before .before .before .before .before .before .put-text2 .ensures in
