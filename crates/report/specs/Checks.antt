@@ -49,29 +49,19 @@ report-parts f room =
 
 -- a file is refused with a number exactly when no earlier check speaks and the number's own condition holds
 module _ (f : List ℕ) (room L : ℕ) where
-  -- the numbers of the checks, in order
+  -- the numbers of the checks, in order: each speaks with its own
   order : List ℕ
   order = 1 ∷ 2 ∷ 3 ∷ 4 ∷ 5 ∷ 6 ∷ 7 ∷ 10 ∷ []
 
+  each : Numbered order (reportChecks f room)
+  unfolding Numbered order
+  each =
+      let c = chainOf f in
+      (length-only f, (count-only (countOf f), (offset-only _ _ _ _, (range-only c _ _, (order-only c _, (rate-only c, (load-only c, (room-only _ room, tt))))))))
+
   report-at : (k : ℕ) → k < 8 → (reportRefusal f room ≡ refused (getD order k 0) L) ↔ (Silents (take k (reportChecks f room)) × (getD (reportChecks f room) k fine ≡ refused (getD order k 0) L))
-  unfolding reportRefusal Numbered order
-  report-at k l = exact-at order (reportChecks f room) (
-    length-only f,
-    (
-      count-only (countOf f),
-      (
-        offset-only (length f) (countOf f) (queuesAt f) (nodesAt f),
-        (
-          range-only (chainOf f) (queuesAt f) (nodesAt f),
-          (
-            order-only (chainOf f) (queuesAt f),
-            (rate-only (chainOf f), (load-only (chainOf f), (room-only (length (reportText f)) room, tt))),
-          ),
-        ),
-      ),
-    ),
-  )
-      tt k L l
+  unfolding reportRefusal order
+  report-at k l = exact-at order (reportChecks f room) each tt k L l
 
   pub report-1 : (reportRefusal f room ≡ refused 1 L) ↔ (BadLength f × (L ≡ 0))
   unfolding Silents order

@@ -13,7 +13,7 @@ use Prim.Native.Nat.{ℕ, zero, suc, _+_}
 use native.Mathlib.Omega.{arith}
 use lib.Dec.{eqb}
 use borrow.Author.Tests.{ne-eqb}
-use lib.ListN.{getD}
+use lib.ListN.{getD, take}
 use lib.IntN.{ℤ, pos, negsuc}
 use Rattle.words.specs.Flat.{flat}
 use Rattle.decimal.specs.Digits.{decimal, field, Digits, decimal-digits}
@@ -21,7 +21,7 @@ use Rattle.decimal.specs.Signed.{integer}
 use Rattle.sizing.specs.Sizes.{noSize}
 use Rattle.sizing.specs.declared.QueueSize.{QueueSize}
 use Rattle.sizing.specs.declared.Analysis.{Analysis}
-use Rattle.report.specs.Text.{heading, numbers, line, lines, busyLine, textOf}
+use Rattle.report.specs.Text.{heading, numbers, line, lines, busyWord, busyLine, textOf}
 
 -- how many bytes are a line feed (10)
 unfoldable pub feeds : List ℕ → ℕ
@@ -80,15 +80,15 @@ queue-one i q = record {
 pub busy-one : (a : Analysis) → OneLine (busyLine a)
 unfolding busyLine field feeds
 busy-one a = record {
-  body = (98 ∷ 117 ∷ 115 ∷ 121 ∷ 44 ∷ []) ++ (field (a .busy) 44 ++ decimal (a .cycle));
-  plain = plain-append {s = 98 ∷ 117 ∷ 115 ∷ 121 ∷ 44 ∷ []} (record { none = refl }) (plain-append (plain-comma (a .busy)) (plain-decimal (a .cycle)));
-  ended = ap (λ (t : List ℕ). 98 ∷ 117 ∷ 115 ∷ 121 ∷ 44 ∷ t) (sym (append-assoc (field (a .busy) 44) (decimal (a .cycle)) (10 ∷ [])));
+  body = busyWord ++ (field (a .busy) 44 ++ decimal (a .cycle));
+  plain = plain-append {s = busyWord} (record { none = refl }) (plain-append (plain-comma (a .busy)) (plain-decimal (a .cycle)));
+  ended = ap (λ (t : List ℕ). busyWord ++ t) (sym (append-assoc (field (a .busy) 44) (decimal (a .cycle)) (10 ∷ [])));
 }
 
 pub heading-one : OneLine heading
 unfolding feeds
 heading-one = record {
-  body = 113 ∷ 117 ∷ 101 ∷ 117 ∷ 101 ∷ 44 ∷ 120 ∷ 44 ∷ 121 ∷ 44 ∷ 109 ∷ 105 ∷ 110 ∷ 105 ∷ 109 ∷ 117 ∷ 109 ∷ 44 ∷ 99 ∷ 97 ∷ 112 ∷ 97 ∷ 99 ∷ 105 ∷ 116 ∷ 121 ∷ 44 ∷ 109 ∷ 97 ∷ 114 ∷ 103 ∷ 105 ∷ 110 ∷ [];
+  body = take 33 heading;
   plain = record { none = refl };
   ended = refl;
 }

@@ -3,6 +3,7 @@
 --   numbers i q      queue i's number, rate, minimum and capacity, a comma behind each
 --   line i q         queue i's line: these, then the margin
 --   lines a i        the lines of the first i queues
+--   busyWord         `busy,`
 --   busyLine a       the last line: busy ticks and cycle
 --   textOf a         the whole report of the analysis a
 use mathlib.Core.List.{List, [], _∷_, _++_}
@@ -36,9 +37,12 @@ abbrev pub lines : Analysis → ℕ → List ℕ
 lines a i = flat (λ j. line j (getD (a .queues) j noSize)) i
 
 -- "the last line is `busy`, busy ticks, cycle"
+abbrev pub busyWord : List ℕ
+busyWord = 98 ∷ 117 ∷ 115 ∷ 121 ∷ 44 ∷ []
+
 unfoldable pub busyLine : Analysis → List ℕ
 unfolding field
-busyLine a = (98 ∷ 117 ∷ 115 ∷ 121 ∷ 44 ∷ []) ++ (field (a .busy) 44 ++ field (a .cycle) 10)
+busyLine a = busyWord ++ (field (a .busy) 44 ++ field (a .cycle) 10)
 
 -- the whole report
 unfoldable pub textOf : Analysis → List ℕ
