@@ -1,3 +1,4 @@
 pub mod Chains
 pub mod Files
 pub mod Analyses
+pub mod Reports

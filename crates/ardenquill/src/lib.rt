@@ -5,6 +5,7 @@ ghost use lib.ListN.{length};
 ghost use Rattle.ardenquill.specs.Files.{readAnswer, packed, writeRefusal, Output};
 ghost use Rattle.ardenquill.specs.Chains.{factoryAnswer};
 ghost use Rattle.ardenquill.specs.Analyses.{analyseAnswer};
+ghost use Rattle.ardenquill.specs.Reports.{reportText, reportRefusal};
 pub use chain::Chain;
 pub use chain::ChainAnswer;
 pub use chain::Queue;
@@ -12,6 +13,9 @@ pub use chain::factory;
 pub use chainfile::LengthAnswer;
 pub use chainfile::read;
 pub use chainfile::write;
+pub use report::headed;
+pub use report::refusal_line;
+pub use report::report;
 pub use sizing::Analysis;
 pub use sizing::AnalysisAnswer;
 pub use sizing::QueueSize;
@@ -48,4 +52,12 @@ pub extern "C" fn ardenquill_analyse(chain: Chain) -> AnalysisAnswer
     ensures { λ r. ⌜ r ≡ analyseAnswer chain ⌝ }
 {
     analyse(chain)
+}
+
+// The report of a file at the front of the lent bytes, or the first of 1 to 7 and 10 that refuses it.
+#[no_mangle]
+pub extern "C" fn ardenquill_report(file: &[u8], out: &mut [u8]) -> LengthAnswer
+    ensures { λ r. ⌜ Output (reportRefusal (now (file .entry)) (length (now (out .entry)))) (reportText (now (file .entry))) (now (out .entry)) (now (out .exit)) r ⌝ }
+{
+    report(file, out)
 }

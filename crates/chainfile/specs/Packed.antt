@@ -11,6 +11,7 @@
 --                        the answer of a call that refuses to write, and of one that wrote k bytes
 --   Output r t o p a     what a call that writes a text t into lent bytes o answers and leaves there, its refusal being r
 --   output-fine          what it is where nothing is refused
+--   output-within        the length answered never passes the lent bytes
 --   room-exact, -only    10 is said exactly under its condition, and no other number is
 --   room-last            10 is what the last check of a call says
 --   write-2, write-4, write-5, write-10
@@ -19,7 +20,7 @@
 --                        how long the tables and the file are, and what the file is made of
 --   TableFits, Fits      what the code of the writer asks: few queues, and room
 use mathlib.Core.Path.{_≡_, refl, sym, ap, _∙_}
-use mathlib.Core.Bool.{cond}
+use mathlib.Core.Bool.{Bool, true, false, cond}
 use mathlib.Core.Logic.{_↔_, Iff·trans, Iff·and, Iff·rfl, true-and}
 use mathlib.Core.List.{List, [], _∷_, _++_}
 use Prim.Native.Nat.{ℕ, _+_, _*_, _≤_, _<_}
@@ -89,6 +90,14 @@ pub record Output (r : Refusal) (t o p : List ℕ) (a : LengthAnswer) : Type 0 w
 -- a call that wrote: its answer, and what became of the lent bytes
 pub output-fine : {r : Refusal} {t o p : List ℕ} {a : LengthAnswer} → r ≡ fine → Output r t o p a → (a ≡ written (length t)) × (p ≡ t ++ drop (length t) o)
 output-fine {r} {t} {o} {p} {a} e w = let v : Output fine t o p a = rw e at w in (v .answer, v .bytes)
+
+-- the length that a call answers is that of a front of the lent bytes, refused or not
+pub output-within : {r : Refusal} {t o p : List ℕ} {a : LengthAnswer} → Output r t o p a → a .length ≤ length p
+output-within {r} {t} {o} {p} {a} w = by (eqb (r .number) 0) (w .answer) (w .bytes)
+  where
+    by : (b : Bool) → a ≡ record { number = r .number; place = r .place; length = cond b (length t) 0 } → p ≡ cond b (t ++ drop (length t) o) o → a .length ≤ length p
+    by true e f = omega (arith, ap (λ (v : LengthAnswer). v .length) e, ap length f, length-append t (drop (length t) o))
+    by false e f = omega (arith, ap (λ (v : LengthAnswer). v .length) e)
 
 pub room-exact : (L need room : ℕ) → (roomCheck need room ≡ refused 10 L) ↔ ((room < need) × (L ≡ need))
 room-exact L need room = Iff·trans (test-exact 10 L need (λ e. omega arith) _) (Iff·and (below-true room need) Iff·rfl)
