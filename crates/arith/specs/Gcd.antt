@@ -6,6 +6,7 @@
 --   gcd-zero, -step             Euclid's rule: gcd a 0 is a, and gcd a b is gcd b (a % b)
 --   gcd-pos-left, -right        it is not 0 where a is not, nor where b is not
 --   gcd-le-left, -right         it is at most a where a is not 0, and so for b
+--   gcd-one                     the gcd of a and 1 is 1
 --   gcd-mul-left, -right        it times its quotient in a is a, and so for b
 --   cofactors                   a * (b / g) is b * (a / g) for a common divisor g, said with no division
 --   cofactor-pos                the quotient of a number that is not 0 is not 0
@@ -82,6 +83,10 @@ gcd-le-left a b h = le-of-dvd h (gcd-dvd-left a b)
 
 pub gcd-le-right : (a b : ℕ) → 0 < b → gcd a b ≤ b
 gcd-le-right a b h = le-of-dvd h (gcd-dvd-right a b)
+
+-- where it ends too: no number but 1 divides 1
+pub gcd-one : (a : ℕ) → gcd a 1 ≡ 1
+gcd-one a = omega (arith, gcd-le-right a 1 (zero-lt-suc 0), gcd-pos-right a 1 (zero-lt-suc 0))
 
 -- the quotients by it are exact
 pub gcd-mul-left : (a b : ℕ) → gcd a b * (a / gcd a b) ≡ a

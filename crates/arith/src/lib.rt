@@ -1,18 +1,29 @@
-// The greatest common divisor; the laws of division, remainders, gcd and widths that other crates cite are in specs/.
-// One loop of 64 bits serves every size: the compiler itself divides in 32 bits where both numbers fit them.
+// The greatest common divisor, and division where the divisor is often 1; the laws of division, remainders, gcd and widths
+// that other crates cite are in specs/.
 ghost use mathlib.Core.Path.{_≡_};
+ghost use Prim.Native.Nat.{_/_};
 ghost use Rattle.arith.specs.Gcd.{gcd};
+ghost use Rattle.arith.specs.Width.{Divisor};
 
-// The greatest number that divides both `a` and `b`; where one of them is 0, the other.
+// The greatest number that divides both `a` and `b`; where one of them is 0, the other. One loop of 64 bits serves every
+// size: the compiler itself divides in 32 bits where both numbers fit them. A remainder of 1 ends it one division early.
 pub fn gcd(a: u64, b: u64) -> u64
     ensures { λ r. ⌜ r ≡ gcd a b ⌝ }
 {
     let mut x = a;
     let mut y = b;
-    while y != 0 {
+    while 1 < y {
         let r = x % y;
         x = y;
         y = r;
     }
-    x
+    if y == 1 { 1 } else { x }
+}
+
+// `n` over `d`, rounded down. A gcd is 1 more often than not, and a comparison is cheaper than a division.
+pub fn quotient(n: u32, d: u32) -> u32
+    requires { ⌜ Divisor d ⌝ }
+    ensures { λ r. ⌜ r ≡ n / d ⌝ }
+{
+    if d == 1 { n } else { n / d }
 }

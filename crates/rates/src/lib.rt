@@ -19,9 +19,9 @@ pub fn rate_after(q: Row, x: u32, y: u32) -> Rate
     ensures { λ r. ⌜ r ≡ rateAfter (q .produce) (q .consume) x y ⌝ }
 {
     let common = arith::gcd(x as u64, q.share as u64) as u32;
-    let stretch = q.share / common;
+    let stretch = arith::quotient(q.share, common);
     Rate {
-        x: ((q.produce / q.g) as u64) * ((x / common) as u64),
+        x: (arith::quotient(q.produce, q.g) as u64) * (arith::quotient(x, common) as u64),
         y: (stretch as u64) * (y as u64),
         stretch: stretch,
     }

@@ -17,7 +17,6 @@ use Rattle.chainfile.specs.declared.LengthAnswer.{LengthAnswer}
 use Rattle.chainfile.proofs.Writing.{output-refused}
 use Rattle.sizing.specs.Sizes.{analysisOf, sized}
 use Rattle.sizing.specs.Checks.{sizeChecks}
-use Rattle.sizing.specs.declared.Analysis.{Analysis}
 use Rattle.sizing.specs.declared.AnalysisAnswer.{AnalysisAnswer}
 use Rattle.report.specs.Text.{textOf}
 use Rattle.report.specs.Checks.{reportText, sizeRefusal, reportRefusal, report-parts}

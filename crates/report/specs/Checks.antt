@@ -16,7 +16,7 @@ use Rattle.chain.specs.Tests.{Out}
 use Rattle.chain.specs.Refusals.{Silents, Numbered, exact-at, refused, fine, first, orElse, first-append}
 use Rattle.chain.specs.Checks.{countCheck, fields, FirstOut, FirstOver, count-exact, range-exact, order-exact, count-only, range-only, order-only}
 use Rattle.chain.specs.declared.Refusal.{Refusal}
-use Rattle.chainfile.specs.File.{countOf, queuesAt, nodesAt, chainOf, lengthCheck, fileOffsets, fileRange, fileOrder, readChecks, readRefusal, BadLength, BadTables, length-exact, offset-exact, length-only, offset-only}
+use Rattle.chainfile.specs.File.{countOf, queuesAt, nodesAt, chainOf, lengthCheck, fileOffsets, fileRange, readChecks, readRefusal, BadLength, BadTables, length-exact, offset-exact, length-only, offset-only}
 use Rattle.chainfile.specs.Packed.{roomCheck, room-exact, room-only, room-last}
 use Rattle.sizing.specs.Load.{busyIn, busyOf, cycleOf}
 use Rattle.sizing.specs.Sizes.{analysisOf}

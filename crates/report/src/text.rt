@@ -1,6 +1,5 @@
 // The report's lines, written one behind the other where there is room for the longest report.
 ghost use Prim.Native.Nat.{_+_, _*_, _≤_};
-ghost use lib.ListN.{length};
 ghost use Rattle.words.specs.Put.{Room, Puts};
 ghost use Rattle.report.specs.Text.{numbers, line, lines, textOf};
 ghost use Rattle.report.specs.Refused.{refusalText};

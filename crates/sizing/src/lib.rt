@@ -173,7 +173,7 @@ fn parted(q: Queue) -> Row
         threshold: q.threshold,
         consume: q.consume,
         g: g,
-        share: q.consume / g,
+        share: arith::quotient(q.consume, g),
     }
 }
 
