@@ -2,10 +2,10 @@
 --   reportText f           the report of the file f, where it is not refused
 --   reportChecks f room    the call's checks, in order: the reader's, then 6 and 7, then 10
 --   reportRefusal f room   what the call refuses f with, the lent output being `room` bytes long
---   sizeRefusal f          what 6 and 7 refuse of the chain that f says
---   report-parts           the reader speaks first, then 6 and 7, then 10
 --   report-1 .. report-7, report-10
 --                          when a file is refused with each number
+--   sizeRefusal f          what 6 and 7 refuse of the chain that f says
+--   report-parts           the reader speaks first, then 6 and 7, then 10
 use mathlib.Core.Path.{_≡_, ap, _∙_}
 use mathlib.Core.Logic.{_↔_, Iff·trans, Iff·and, Iff·rfl, true-and}
 use mathlib.Core.List.{List, [], _∷_, _++_}
@@ -34,18 +34,6 @@ reportChecks f room = readChecks f ++ (sizeChecks (chainOf f) ++ (roomCheck (len
 unfoldable pub reportRefusal : List ℕ → ℕ → Refusal
 unfolding first readRefusal rateCheck busyIn analysisOf textOf
 reportRefusal f room = first (reportChecks f room)
-
--- 6 and 7 of the chain that the file says
-unfoldable pub sizeRefusal : List ℕ → Refusal
-unfolding first chainOf rateCheck busyIn
-sizeRefusal f = first (sizeChecks (chainOf f))
-
--- the reader's, then these, then 10
-pub report-parts : (f : List ℕ) (room : ℕ) → reportRefusal f room ≡ orElse (readRefusal f) (orElse (sizeRefusal f) (roomCheck (length (reportText f)) room))
-unfolding reportRefusal readRefusal sizeRefusal
-report-parts f room =
-    first-append (readChecks f) (sizeChecks (chainOf f) ++ (roomCheck (length (reportText f)) room ∷ []))
-    ∙ ap (orElse (readRefusal f)) (room-last (sizeChecks (chainOf f)) (length (reportText f)) room)
 
 -- a file is refused with a number exactly when no earlier check speaks and the number's own condition holds
 module _ (f : List ℕ) (room L : ℕ) where
@@ -94,3 +82,15 @@ module _ (f : List ℕ) (room L : ℕ) where
   pub report-10 : (reportRefusal f room ≡ refused 10 L) ↔ (Silents (readChecks f ++ sizeChecks (chainOf f)) × ((room < length (reportText f)) × (L ≡ length (reportText f))))
   unfolding order
   report-10 = Iff·trans (report-at 7 (omega arith)) (Iff·and Iff·rfl (room-exact L (length (reportText f)) room))
+
+-- 6 and 7 of the chain that the file says
+unfoldable pub sizeRefusal : List ℕ → Refusal
+unfolding first chainOf rateCheck busyIn
+sizeRefusal f = first (sizeChecks (chainOf f))
+
+-- the reader's, then these, then 10
+pub report-parts : (f : List ℕ) (room : ℕ) → reportRefusal f room ≡ orElse (readRefusal f) (orElse (sizeRefusal f) (roomCheck (length (reportText f)) room))
+unfolding reportRefusal readRefusal sizeRefusal
+report-parts f room =
+    first-append (readChecks f) (sizeChecks (chainOf f) ++ (roomCheck (length (reportText f)) room ∷ []))
+    ∙ ap (orElse (readRefusal f)) (room-last (sizeChecks (chainOf f)) (length (reportText f)) room)
