@@ -35,52 +35,45 @@ unfoldable pub reportRefusal : List ℕ → ℕ → Refusal
 unfolding first readRefusal rateCheck busyIn analysisOf textOf
 reportRefusal f room = first (reportChecks f room)
 
+-- their numbers, in order
+abbrev order : List ℕ
+order = 1 ∷ 2 ∷ 3 ∷ 4 ∷ 5 ∷ 6 ∷ 7 ∷ 10 ∷ []
+
 -- a file is refused with a number exactly when no earlier check speaks and the number's own condition holds
 module _ (f : List ℕ) (room L : ℕ) where
-  -- the numbers of the checks, in order: each speaks with its own
-  order : List ℕ
-  order = 1 ∷ 2 ∷ 3 ∷ 4 ∷ 5 ∷ 6 ∷ 7 ∷ 10 ∷ []
-
   each : Numbered order (reportChecks f room)
-  unfolding Numbered order
+  unfolding Numbered
   each =
       let c = chainOf f in
       (length-only f, (count-only (countOf f), (offset-only _ _ _ _, (range-only c _ _, (order-only c _, (rate-only c, (load-only c, (room-only _ room, tt))))))))
 
   report-at : (k : ℕ) → k < 8 → (reportRefusal f room ≡ refused (getD order k 0) L) ↔ (Silents (take k (reportChecks f room)) × (getD (reportChecks f room) k fine ≡ refused (getD order k 0) L))
-  unfolding reportRefusal order
+  unfolding reportRefusal
   report-at k l = exact-at order (reportChecks f room) each tt k L l
 
   pub report-1 : (reportRefusal f room ≡ refused 1 L) ↔ (BadLength f × (L ≡ 0))
-  unfolding Silents order
+  unfolding Silents
   report-1 = Iff·trans (report-at 0 (omega arith)) (Iff·trans true-and (length-exact L f))
 
   pub report-2 : (reportRefusal f room ≡ refused 2 L) ↔ (Silents (lengthCheck f ∷ []) × (Out 1 16 (countOf f) × (L ≡ 0)))
-  unfolding order
   report-2 = Iff·trans (report-at 1 (omega arith)) (Iff·and Iff·rfl (count-exact L (countOf f)))
 
   pub report-3 : (reportRefusal f room ≡ refused 3 L) ↔ (Silents (lengthCheck f ∷ countCheck (countOf f) ∷ []) × BadTables (length f) (countOf f) (queuesAt f) (nodesAt f) L)
-  unfolding order
   report-3 = Iff·trans (report-at 2 (omega arith)) (Iff·and Iff·rfl (offset-exact L (length f) (countOf f) (queuesAt f) (nodesAt f)))
 
   pub report-4 : (reportRefusal f room ≡ refused 4 L) ↔ (Silents (lengthCheck f ∷ countCheck (countOf f) ∷ fileOffsets f ∷ []) × FirstOut (fields (chainOf f) (queuesAt f) (nodesAt f)) L)
-  unfolding order
   report-4 = Iff·trans (report-at 3 (omega arith)) (Iff·and Iff·rfl (range-exact L (chainOf f) (queuesAt f) (nodesAt f)))
 
   pub report-5 : (reportRefusal f room ≡ refused 5 L) ↔ (Silents (lengthCheck f ∷ countCheck (countOf f) ∷ fileOffsets f ∷ fileRange f ∷ []) × FirstOver (chainOf f) (queuesAt f) L)
-  unfolding order
   report-5 = Iff·trans (report-at 4 (omega arith)) (Iff·and Iff·rfl (order-exact L (chainOf f) (queuesAt f)))
 
   pub report-6 : (reportRefusal f room ≡ refused 6 L) ↔ (Silents (readChecks f) × FirstFast (chainOf f) L)
-  unfolding order
   report-6 = Iff·trans (report-at 5 (omega arith)) (Iff·and Iff·rfl (rate-exact (chainOf f) L))
 
   pub report-7 : (reportRefusal f room ≡ refused 7 L) ↔ (Silents (readChecks f ++ (rateCheck (chainOf f) ∷ [])) × ((cycleOf (chainOf f) < busyOf (chainOf f)) × (L ≡ 0)))
-  unfolding order
   report-7 = Iff·trans (report-at 6 (omega arith)) (Iff·and Iff·rfl (load-exact (chainOf f) L))
 
   pub report-10 : (reportRefusal f room ≡ refused 10 L) ↔ (Silents (readChecks f ++ sizeChecks (chainOf f)) × ((room < length (reportText f)) × (L ≡ length (reportText f))))
-  unfolding order
   report-10 = Iff·trans (report-at 7 (omega arith)) (Iff·and Iff·rfl (room-exact L (length (reportText f)) room))
 
 -- 6 and 7 of the chain that the file says

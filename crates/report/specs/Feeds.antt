@@ -28,6 +28,7 @@ unfoldable pub feeds : List ℕ → ℕ
 feeds [] = 0
 feeds (b ∷ t) = cond (eqb b 10) 1 0 + feeds t
 
+-- none is
 pub record Plain (t : List ℕ) : Type 0 where
   pub none : feeds t ≡ 0
 

@@ -10,7 +10,7 @@ ghost use Rattle.report.specs.Checks.{reportText, reportRefusal};
 use chainfile::LengthAnswer;
 use sizing::Analysis;
 
-mod text;
+mod writer;
 
 // Writes the report of a chain file to the front of the lent bytes, and answers its length; or refuses and writes nothing.
 pub fn report(file: &[u8], out: &mut [u8]) -> LengthAnswer
@@ -34,7 +34,7 @@ pub fn refusal_line(number: u32, place: u32, out: &mut [u8]) -> LengthAnswer
     ensures { λ r. ⌜ Output (roomCheck (length (refusalText number place)) (length (now (out .entry)))) (refusalText number place) (now (out .entry)) (now (out .exit)) r ⌝ }
 {
     let mut line = [0u8; 30];
-    let end = text::put_refusal(&mut line, number, place);
+    let end = writer::put_refusal(&mut line, number, place);
     copy_text(&line[..end], out)
 }
 
@@ -47,7 +47,7 @@ pub fn headed(text: &[u8]) -> bool
     }
     let mut i = 0;
     while i < 34 {
-        if text[i] != text::HEADING[i] {
+        if text[i] != writer::HEADING[i] {
             return false;
         }
         i += 1;
@@ -62,10 +62,10 @@ fn write_text(analysis: Analysis, out: &mut [u8]) -> LengthAnswer
     ensures { λ r. ⌜ Output (roomCheck (length (textOf analysis)) (length (now (out .entry)))) (textOf analysis) (now (out .entry)) (now (out .exit)) r ⌝ }
 {
     if 1133 <= out.len() {
-        return chainfile::written(text::put_text(out, analysis));
+        return chainfile::written(writer::put_text(out, analysis));
     }
     let mut text = [0u8; 1133];
-    let end = text::put_text(&mut text, analysis);
+    let end = writer::put_text(&mut text, analysis);
     copy_text(&text[..end], out)
 }
 

@@ -1,4 +1,4 @@
--- `report::text::put_line` meets its contract: the numbers, the margin and the line feed.
+-- `report::writer::put_line` meets its contract: the numbers, the margin and the line feed.
 use borrow.Author.Needs.{needs}
 use native.Mathlib.Omega.{arith}
 use mir.Syntax.{w32}
@@ -6,8 +6,8 @@ use mir.Val.{SFits}
 use mir.Facts.{toZ-ofZ}
 use Rattle.words.specs.Put.{then}
 use Rattle.report.specs.Text.{line}
-use Rattle.report.proofs.text.put_line.Statement.{statement}
-use Rattle.report.proofs.text.put_line.Tie as tie
+use Rattle.report.proofs.writer.put_line.Statement.{statement}
+use Rattle.report.proofs.writer.put_line.Tie as tie
 
 put-numbers-requires : tie.Need-put-numbers-requires
 put-numbers-requires c κs = search needs

@@ -1,10 +1,10 @@
--- `report::text::put_numbers` meets its contract: five numbers, one writer after the other.
+-- `report::writer::put_numbers` meets its contract: five numbers, one writer after the other.
 use borrow.Author.Needs.{needs}
 use native.Mathlib.Omega.{arith}
 use Rattle.words.specs.Put.{then}
 use Rattle.report.specs.Text.{numbers}
-use Rattle.report.proofs.text.put_numbers.Statement.{statement}
-use Rattle.report.proofs.text.put_numbers.Tie as tie
+use Rattle.report.proofs.writer.put_numbers.Statement.{statement}
+use Rattle.report.proofs.writer.put_numbers.Tie as tie
 
 put-field-requires : tie.Need-put-field-requires
 put-field-requires c κs = search needs
