@@ -89,11 +89,9 @@ struct ardenquill_chain {
 struct ardenquill_queue_size {
     /* The rate of the queue's consumer: x firings in y ticks. The two may have a common divisor. */
     uint32_t x, y;
-    /* The minimum capacity: the largest multiple of gcd(produce, consume) below threshold, plus produce. It is the
-     * most that the queue ever holds where no node fires while the node after it may fire. */
+    /* The minimum capacity: the largest multiple of gcd(produce, consume) below threshold, plus produce. */
     uint32_t minimum;
-    /* The naming count: (threshold - consume) / produce rounded up, plus consume / gcd(produce, consume). Once the
-     * producer has fired so many times the queue has held minimum or more, in whatever order the nodes fired. */
+    /* The naming count: (threshold - consume) / produce rounded up, plus consume / gcd(produce, consume). */
     uint32_t by;
     /* The capacity in force: the queue's capacity, or minimum where that is 0. */
     uint32_t capacity;

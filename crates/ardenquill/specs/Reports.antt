@@ -8,7 +8,7 @@ unfoldable pub use Rattle.report.specs.Text.{numbers, line, busyLine, textOf}
 unfoldable pub use Rattle.report.specs.Heading.{headed}
 pub use Rattle.report.specs.Heading.{headed-true, first-line, report-headed}
 unfoldable pub use Rattle.report.specs.Refused.{refusalText}
-pub use Rattle.report.specs.Refused.{refusal-short}
+pub use Rattle.report.specs.Refused.{refusal-short, refusal-room}
 pub use Rattle.report.specs.Checks.{reportText, reportChecks, report-1, report-2, report-3, report-4, report-5, report-6, report-7, report-10}
 unfoldable pub use Rattle.report.specs.Checks.{reportRefusal}
 pub use Rattle.report.specs.Accepted.{report-accepts, report-written}
