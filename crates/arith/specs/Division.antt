@@ -1,4 +1,5 @@
 -- Division rounded down, n / m, division rounded up, and the remainder n % m.
+--   Divisor d                   what the code of a division asks: d is not 0
 --   floor-below, -above         m * (n / m) ≤ n < m * (n / m + 1)
 --   floor-unique                and n / m is the only such number
 --   floor-mono, -shift          a larger n gives no smaller n / m; k times m more in n is k more in n / m
@@ -14,6 +15,10 @@ use mathlib.Core.Path.{_≡_, ap}
 use Prim.Native.Nat.{ℕ, zero, suc, _+_, _-_, _*_, _/_, _%_, _≤_, _<_}
 use native.Mathlib.Nat.{le-refl, le-trans, zero-lt-suc, div-zero, div-add-mod, mul-div-le, lt-mul-div-succ, div-mul-le-self, le-div-iff-mul-le, div-lt-iff-lt-mul, div-eq-of-lt-le, add-mul-div-left, add-mul-mod-self-left, mul-le-mul-left, lt-of-mul-lt-mul-left}
 use native.Mathlib.Omega.{arith}
+
+-- a number that code may divide by
+pub record Divisor (d : ℕ) : Type 0 where
+  pub some : 0 < d
 
 pub floor-below : (n m : ℕ) → m * (n / m) ≤ n
 floor-below n m = mul-div-le n m

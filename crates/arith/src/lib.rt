@@ -3,7 +3,7 @@
 ghost use mathlib.Core.Path.{_≡_};
 ghost use Prim.Native.Nat.{_/_};
 ghost use Rattle.arith.specs.Gcd.{gcd};
-ghost use Rattle.arith.specs.Width.{Divisor};
+ghost use Rattle.arith.specs.Division.{Divisor};
 
 // The greatest number that divides both `a` and `b`; where one of them is 0, the other. One loop of 64 bits serves every
 // size: the compiler itself divides in 32 bits where both numbers fit them. A remainder of 1 ends it one division early.

@@ -5,7 +5,7 @@ use native.Mathlib.Nat.{mul-le-mul, div-le-self, le-trans}
 use native.Mathlib.Omega.{arith}
 use borrow.Author.Needs.{needs}
 use Rattle.arith.specs.Gcd.{gcd, gcd-pos-left, gcd-le-left}
-use Rattle.arith.specs.Width.{Divisor}
+use Rattle.arith.specs.Division.{Divisor}
 use Rattle.onequeue.specs.declared.Row.{Row}
 use Rattle.rates.specs.Rates.{Step, rate-by-parts, rateAfter}
 use Rattle.rates.proofs.rate_after.Statement.{statement}
