@@ -1,16 +1,17 @@
--- What the public calls promise of reports, handed on from the crates `decimal` and `report`.
+-- What the public calls promise of reports, handed on from the crates `decimal`, `reporttext` and `report`.
 unfoldable pub use Rattle.decimal.specs.Digits.{decimal, field, valueOf}
 pub use Rattle.decimal.specs.Digits.{Digits, value-of-decimal, decimal-digits, no-leading-zero}
 unfoldable pub use Rattle.decimal.specs.Signed.{integer}
 pub use Rattle.decimal.specs.Signed.{minus-exact}
-pub use Rattle.report.specs.Text.{heading, lines, busyWord}
-unfoldable pub use Rattle.report.specs.Text.{numbers, line, busyLine, textOf}
-unfoldable pub use Rattle.report.specs.Heading.{headed}
-pub use Rattle.report.specs.Heading.{headed-true, first-line, report-headed}
-unfoldable pub use Rattle.report.specs.Refused.{refusalText}
-pub use Rattle.report.specs.Refused.{refusal-short, refusal-room}
+pub use Rattle.reporttext.specs.Text.{heading, lines, busyWord}
+unfoldable pub use Rattle.reporttext.specs.Text.{numbers, line, busyLine, textOf}
+unfoldable pub use Rattle.reporttext.specs.Heading.{headed}
+pub use Rattle.reporttext.specs.Heading.{headed-true, first-line, report-headed}
+unfoldable pub use Rattle.reporttext.specs.Refused.{refusalText}
+pub use Rattle.reporttext.specs.Refused.{refusal-short}
+pub use Rattle.reporttext.specs.Feeds.{report-feeds}
+pub use Rattle.reporttext.specs.Short.{report-short}
 pub use Rattle.report.specs.Checks.{reportText, reportChecks, report-1, report-2, report-3, report-4, report-5, report-6, report-7, report-10}
 unfoldable pub use Rattle.report.specs.Checks.{reportRefusal}
 pub use Rattle.report.specs.Accepted.{report-accepts, report-written}
-pub use Rattle.report.specs.Feeds.{report-feeds}
-pub use Rattle.report.specs.Short.{report-short, report-room}
+pub use Rattle.report.specs.Room.{report-room, refusal-room}

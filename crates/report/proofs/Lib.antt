@@ -1,3 +1,1 @@
-mod Lines
-mod Compared
 mod Ways

@@ -18,7 +18,7 @@ use Rattle.chainfile.proofs.Writing.{output-refused}
 use Rattle.sizing.specs.Sizes.{analysisOf, sized}
 use Rattle.sizing.specs.Checks.{sizeChecks}
 use Rattle.sizing.specs.declared.AnalysisAnswer.{AnalysisAnswer}
-use Rattle.report.specs.Text.{textOf}
+use Rattle.reporttext.specs.Text.{textOf}
 use Rattle.report.specs.Checks.{reportText, sizeRefusal, reportRefusal, report-parts}
 
 -- the reader has answered for f, and then the sizing

@@ -18,7 +18,7 @@ use Rattle.chainfile.specs.declared.LengthAnswer.{LengthAnswer}
 use Rattle.sizing.specs.Sizes.{analysisOf}
 use Rattle.sizing.specs.Checks.{sizeChecks, rates-silent, load-silent}
 use Rattle.sizing.specs.Accepted.{Accepted}
-use Rattle.report.specs.Heading.{headed, report-headed}
+use Rattle.reporttext.specs.Heading.{headed, report-headed}
 use Rattle.report.specs.Checks.{reportText, reportChecks, sizeRefusal, reportRefusal, report-parts}
 
 module _ (f : List ℕ) (room : ℕ) where

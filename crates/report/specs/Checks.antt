@@ -21,7 +21,7 @@ use Rattle.chainfile.specs.Packed.{roomCheck, room-exact, room-only, room-last}
 use Rattle.sizing.specs.Load.{busyIn, busyOf, cycleOf}
 use Rattle.sizing.specs.Sizes.{analysisOf}
 use Rattle.sizing.specs.Checks.{rateCheck, sizeChecks, FirstFast, rate-exact, load-exact, rate-only, load-only}
-use Rattle.report.specs.Text.{textOf}
+use Rattle.reporttext.specs.Text.{textOf}
 
 -- the report of a file
 abbrev pub reportText : List ℕ → List ℕ

@@ -1,8 +1,3 @@
-pub mod Text
-pub mod Heading
-pub mod Feeds
-pub mod Refused
 pub mod Checks
 pub mod Accepted
-pub mod Short
-pub mod Figures
+pub mod Room

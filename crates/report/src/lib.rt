@@ -1,16 +1,13 @@
 // The report: the text of a chain file's analysis, and the line of a refusal, written into the caller's own bytes.
-ghost use mathlib.Core.Path.{_≡_};
 ghost use Prim.Native.Nat.{_≤_};
 ghost use lib.ListN.{length};
 ghost use Rattle.chainfile.specs.Packed.{roomCheck, Output};
-ghost use Rattle.report.specs.Text.{textOf};
-ghost use Rattle.report.specs.Heading.{headed};
-ghost use Rattle.report.specs.Refused.{refusalText};
+ghost use Rattle.reporttext.specs.Text.{textOf};
+ghost use Rattle.reporttext.specs.Refused.{refusalText};
 ghost use Rattle.report.specs.Checks.{reportText, reportRefusal};
 use chainfile::LengthAnswer;
+pub use reporttext::headed;
 use sizing::Analysis;
-
-mod writer;
 
 // Writes the report of a chain file to the front of the lent bytes, and answers its length; or refuses and writes nothing.
 pub fn report(file: &[u8], out: &mut [u8]) -> LengthAnswer
@@ -34,25 +31,8 @@ pub fn refusal_line(number: u32, place: u32, out: &mut [u8]) -> LengthAnswer
     ensures { λ r. ⌜ Output (roomCheck (length (refusalText number place)) (length (now (out .entry)))) (refusalText number place) (now (out .entry)) (now (out .exit)) r ⌝ }
 {
     let mut line = [0u8; 30];
-    let end = writer::put_refusal(&mut line, number, place);
+    let end = reporttext::put_refusal(&mut line, number, place);
     copy_text(&line[..end], out)
-}
-
-// Whether a text begins with a report's first line.
-pub fn headed(text: &[u8]) -> bool
-    ensures { λ r. ⌜ r ≡ headed (now (text .entry)) ⌝ }
-{
-    if text.len() < 34 {
-        return false;
-    }
-    let mut i = 0;
-    while i < 34 {
-        if text[i] != writer::HEADING[i] {
-            return false;
-        }
-        i += 1;
-    }
-    true
 }
 
 // Writes the report of an analysis, or 10 where there is no room for it. Where there is room for the longest report it
@@ -62,10 +42,10 @@ fn write_text(analysis: Analysis, out: &mut [u8]) -> LengthAnswer
     ensures { λ r. ⌜ Output (roomCheck (length (textOf analysis)) (length (now (out .entry)))) (textOf analysis) (now (out .entry)) (now (out .exit)) r ⌝ }
 {
     if 1133 <= out.len() {
-        return chainfile::written(writer::put_text(out, analysis));
+        return chainfile::written(reporttext::put_text(out, analysis));
     }
     let mut text = [0u8; 1133];
-    let end = writer::put_text(&mut text, analysis);
+    let end = reporttext::put_text(&mut text, analysis);
     copy_text(&text[..end], out)
 }
 

@@ -7,7 +7,7 @@ use lib.ListN.{length}
 use lib.Seq.{length-take-le}
 use Rattle.words.specs.Put.{taken}
 use Rattle.chainfile.proofs.Writing.{output-done, room-enough}
-use Rattle.report.specs.Text.{textOf}
+use Rattle.reporttext.specs.Text.{textOf}
 use Rattle.report.proofs.write_text.Statement.{statement}
 use Rattle.report.proofs.write_text.Tie as tie
 

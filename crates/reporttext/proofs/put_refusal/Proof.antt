@@ -1,10 +1,10 @@
--- `report::writer::put_refusal` meets its contract: the word, the number and the place, one writer after the other.
+-- `reporttext::put_refusal` meets its contract: the word, the number and the place, one writer after the other.
 use borrow.Author.Needs.{needs}
 use native.Mathlib.Omega.{arith}
 use Rattle.words.specs.Put.{then}
-use Rattle.report.specs.Refused.{refusalText}
-use Rattle.report.proofs.writer.put_refusal.Statement.{statement}
-use Rattle.report.proofs.writer.put_refusal.Tie as tie
+use Rattle.reporttext.specs.Refused.{refusalText}
+use Rattle.reporttext.proofs.put_refusal.Statement.{statement}
+use Rattle.reporttext.proofs.put_refusal.Tie as tie
 
 slice-aggregate-put-bytes : tie.Need-slice-aggregate-put-bytes
 slice-aggregate-put-bytes c = search needs

@@ -1,10 +1,10 @@
--- `report::writer::put_text` meets its contract: the first line, the queues' lines and the last line, one writer after the other.
+-- `reporttext::put_text` meets its contract: the first line, the queues' lines and the last line, one writer after the other.
 use borrow.Author.Needs.{needs}
 use native.Mathlib.Omega.{arith}
 use Rattle.words.specs.Put.{then}
-use Rattle.report.specs.Text.{busyLine, textOf}
-use Rattle.report.proofs.writer.put_text.Statement.{statement}
-use Rattle.report.proofs.writer.put_text.Tie as tie
+use Rattle.reporttext.specs.Text.{busyLine, textOf}
+use Rattle.reporttext.proofs.put_text.Statement.{statement}
+use Rattle.reporttext.proofs.put_text.Tie as tie
 
 slice-aggregate-put-bytes : tie.Need-slice-aggregate-put-bytes
 slice-aggregate-put-bytes c = search needs

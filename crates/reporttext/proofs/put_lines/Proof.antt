@@ -1,12 +1,12 @@
--- `report::writer::put_lines` meets its contract: before queue i's line is written, the first i lines are.
+-- `reporttext::put_lines` meets its contract: before queue i's line is written, the first i lines are.
 use native.Mathlib.Omega.{arith}
 use borrow.Author.Needs.{needs}
 use Prim.Native.Nat.{_+_, _*_, _≤_, _-_}
 use Rattle.words.specs.Put.{Puts, puts-length}
-use Rattle.report.specs.Text.{lines}
-use Rattle.report.proofs.Lines.{lines-none, lines-more, lines-end}
-use Rattle.report.proofs.writer.put_lines.Statement.{statement}
-use Rattle.report.proofs.writer.put_lines.Tie as tie
+use Rattle.reporttext.specs.Text.{lines}
+use Rattle.reporttext.proofs.Lines.{lines-none, lines-more, lines-end}
+use Rattle.reporttext.proofs.put_lines.Statement.{statement}
+use Rattle.reporttext.proofs.put_lines.Tie as tie
 
 abbrev Inv-loop : tie.InvT-loop
 Inv-loop out₀ at analysis n i₀ k₀ out i k = (i ≤ n) × Puts out₀ at (lines analysis i) out k × (k ≤ at + 67 * i)

@@ -6,8 +6,8 @@ use mathlib.Core.Path.{_≡_, refl}
 use mathlib.Core.List.{[], _∷_}
 use Rattle.chain.specs.Factory.{queue, made}
 use Rattle.sizing.specs.Sizes.{analysisOf}
-use Rattle.report.specs.Text.{textOf}
-use Rattle.report.specs.Refused.{refusalText}
+use Rattle.reporttext.specs.Text.{textOf}
+use Rattle.reporttext.specs.Refused.{refusalText}
 
 -- queue,x,y,minimum,capacity,margin
 -- 0,4,30,10,10,0

@@ -1,16 +1,11 @@
 -- The line of a refusal (01, Report program: "a refusal prints only the line `refused,number,place`").
 --   refusalText N L   the line's bytes
 --   refusal-short     it has at most 30
---   refusal-room      so 30 lent bytes are enough for it
-use mathlib.Core.Path.{_≡_}
 use mathlib.Core.List.{List, [], _∷_, _++_}
 use Prim.Native.Nat.{ℕ, _^_, _≤_, _<_}
 use native.Mathlib.Omega.{arith}
-use borrow.Author.Tests.{le-ltb}
 use lib.ListN.{length, length-append}
 use Rattle.decimal.specs.Digits.{field, field-word}
-use Rattle.chain.specs.Refusals.{fine}
-use Rattle.chainfile.specs.Packed.{roomCheck}
 
 -- "refused", the number and the place, a comma between them and a line feed behind
 unfoldable pub refusalText : ℕ → ℕ → List ℕ
@@ -20,8 +15,3 @@ refusalText N L = (114 ∷ 101 ∷ 102 ∷ 117 ∷ 115 ∷ 101 ∷ 100 ∷ 44 �
 pub refusal-short : (N L : ℕ) → N < 2 ^ 32 → L < 2 ^ 32 → length (refusalText N L) ≤ 30
 unfolding refusalText
 refusal-short N L n l = omega (arith, length-append (field N 44) (field L 10), field-word N 44 n, field-word L 10 l)
-
-pub refusal-room : (N L room : ℕ) → N < 2 ^ 32 → L < 2 ^ 32 → 30 ≤ room → roomCheck (length (refusalText N L)) room ≡ fine
-refusal-room N L room n l h =
-    let fits : length (refusalText N L) ≤ room = omega (arith, refusal-short N L n l) in
-    simp (le-ltb _ _ fits)

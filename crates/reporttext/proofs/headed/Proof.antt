@@ -1,14 +1,14 @@
--- `report::headed` meets its contract: what is left to compare from byte i on gives the answer.
+-- `reporttext::headed` meets its contract: what is left to compare from byte i on gives the answer.
 use native.Mathlib.Omega.{arith}
 use borrow.Author.Needs.{needs}
 use mathlib.Core.Path.{_≡_, _∙_}
 use Prim.Native.Nat.{_≤_, _-_}
 use lib.ListN.{drop}
-use Rattle.report.specs.Text.{heading}
-use Rattle.report.specs.Heading.{begins, headed}
-use Rattle.report.proofs.Compared.{byte-same, byte-other, headed-short, headed-start, headed-end}
-use Rattle.report.proofs.headed.Statement.{statement}
-use Rattle.report.proofs.headed.Tie as tie
+use Rattle.reporttext.specs.Text.{heading}
+use Rattle.reporttext.specs.Heading.{begins, headed}
+use Rattle.reporttext.proofs.Compared.{byte-same, byte-other, headed-short, headed-start, headed-end}
+use Rattle.reporttext.proofs.headed.Statement.{statement}
+use Rattle.reporttext.proofs.headed.Tie as tie
 
 abbrev Inv-loop : tie.InvT-loop
 Inv-loop text i₀ i = (i ≤ 34) × (begins (drop i heading) (drop i text) ≡ headed text)

@@ -21,7 +21,7 @@ use Rattle.decimal.specs.Signed.{integer}
 use Rattle.sizing.specs.Sizes.{noSize}
 use Rattle.sizing.specs.declared.QueueSize.{QueueSize}
 use Rattle.sizing.specs.declared.Analysis.{Analysis}
-use Rattle.report.specs.Text.{heading, numbers, line, lines, busyWord, busyLine, textOf}
+use Rattle.reporttext.specs.Text.{heading, numbers, line, lines, busyWord, busyLine, textOf}
 
 -- how many bytes are a line feed (10)
 unfoldable pub feeds : List ℕ → ℕ

@@ -1,13 +1,33 @@
-// The report's lines, written one behind the other where there is room for the longest report.
+// The report's text: its lines, written one behind the other where there is room for the longest report; the line of a
+// refusal; and the comparison with the first line.
+ghost use mathlib.Core.Path.{_≡_};
 ghost use Prim.Native.Nat.{_+_, _*_, _≤_};
 ghost use Rattle.words.specs.Put.{Room, Puts};
-ghost use Rattle.report.specs.Text.{numbers, line, lines, textOf};
-ghost use Rattle.report.specs.Refused.{refusalText};
+ghost use Rattle.reporttext.specs.Text.{numbers, line, lines, textOf};
+ghost use Rattle.reporttext.specs.Heading.{headed};
+ghost use Rattle.reporttext.specs.Refused.{refusalText};
 use sizing::Analysis;
 use sizing::QueueSize;
 
 // The first line of every report.
-pub const HEADING: [u8; 34] = *b"queue,x,y,minimum,capacity,margin\n";
+const HEADING: [u8; 34] = *b"queue,x,y,minimum,capacity,margin\n";
+
+// Whether a text begins with a report's first line.
+pub fn headed(text: &[u8]) -> bool
+    ensures { λ r. ⌜ r ≡ headed (now (text .entry)) ⌝ }
+{
+    if text.len() < 34 {
+        return false;
+    }
+    let mut i = 0;
+    while i < 34 {
+        if text[i] != HEADING[i] {
+            return false;
+        }
+        i += 1;
+    }
+    true
+}
 
 // Writes the whole report of an analysis to the front of `out`, and answers its length.
 pub fn put_text(out: &mut [u8], analysis: Analysis) -> usize

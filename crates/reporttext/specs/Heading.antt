@@ -16,7 +16,7 @@ use borrow.Author.Tests.{eq-eqb, eqb-true}
 use lib.ListN.{length, getD, take, drop}
 use Rattle.chain.specs.Tests.{and-true}
 use Rattle.sizing.specs.declared.Analysis.{Analysis}
-use Rattle.report.specs.Text.{heading, textOf}
+use Rattle.reporttext.specs.Text.{heading, textOf}
 
 -- a text begins with another
 unfoldable pub begins : List ℕ → List ℕ → Bool

@@ -1,8 +1,6 @@
 -- How long a report can be.
 --   line-short     a queue's line has at most 67 bytes
 --   report-short   the report of an accepted chain has at most 1,133
---   report-room    so with 1,133 lent bytes the call never says 10
-use mathlib.Core.Path.{_≡_}
 use mathlib.Core.List.{List, [], _∷_, _++_}
 use Prim.Native.Nat.{ℕ, zero, suc, _+_, _*_, _^_, _≤_, _<_}
 use native.Mathlib.Omega.{arith}
@@ -10,17 +8,12 @@ use lib.ListN.{length, getD, length-append}
 use Rattle.words.specs.Flat.{flat}
 use Rattle.decimal.specs.Digits.{field, field-word}
 use Rattle.decimal.specs.Signed.{integer, integer-word}
-use Rattle.chain.specs.Refusals.{refused, Silents, first-silent}
 use Rattle.chain.specs.declared.Chain.{Chain}
-use Rattle.chainfile.specs.File.{chainOf, readChecks, readRefusal}
-use Rattle.chainfile.specs.Accepted.{read-accepts}
 use Rattle.sizing.specs.Load.{busyOf, cycleOf}
 use Rattle.sizing.specs.Sizes.{noSize, sizeOf, analysisOf, size-at}
-use Rattle.sizing.specs.Checks.{rates-silent, load-silent}
 use Rattle.sizing.specs.Accepted.{Accepted, SizeFits, size-fits, busy-fits, cycle-fits}
 use Rattle.sizing.specs.declared.QueueSize.{QueueSize}
-use Rattle.report.specs.Text.{numbers, line, lines, busyLine, textOf}
-use Rattle.report.specs.Checks.{reportRefusal, report-10}
+use Rattle.reporttext.specs.Text.{numbers, line, lines, busyLine, textOf}
 
 -- a text of at most k bytes, and two of them in a row
 record AtMost (k : ℕ) (t : List ℕ) : Type 0 where
@@ -58,13 +51,3 @@ module _ (c : Chain) (a : Accepted c) where
   pub report-short : length (textOf (analysisOf c)) ≤ 1133
   unfolding textOf analysisOf
   report-short = omega (arith, length-append (lines (analysisOf c) (c .n)) (busyLine (analysisOf c)), lines-short (c .n) (omega arith), busy-short, a .chain .count .1)
-
-pub report-room : (f : List ℕ) (room L : ℕ) → 1133 ≤ room → reportRefusal f room ≡ refused 10 L → ⊥
-unfolding readRefusal Silents
-report-room f room L l e =
-    let t = report-10 f room L .0 e in
-    let h = t .0 in
-    let file = read-accepts f .0 (first-silent (readChecks f) .1 (h .0, (h .1 .0, (h .1 .1 .0, (h .1 .1 .1 .0, (h .1 .1 .1 .1 .0, tt)))))) in
-    let own = h .1 .1 .1 .1 .1 in
-    let accepted : Accepted (chainOf f) = record { chain = file .chain; slow = rates-silent (chainOf f) .0 (own .0); load = load-silent (chainOf f) .0 (own .1 .0) } in
-    omega (arith, report-short (chainOf f) accepted, t .1)

@@ -11,8 +11,8 @@ use lib.Dec.{eqb}
 use borrow.Author.Tests.{eq-eqb, ne-eqb}
 use lib.ListN.{length, getD, drop}
 use lib.Seq.{drop-cons}
-use Rattle.report.specs.Text.{heading}
-use Rattle.report.specs.Heading.{begins, headed}
+use Rattle.reporttext.specs.Text.{heading}
+use Rattle.reporttext.specs.Heading.{begins, headed}
 
 -- a text that is too short does not begin with s
 too-short : (s t : List ℕ) → length t < length s → false ≡ begins s t

@@ -1,0 +1,6 @@
+pub mod Text
+pub mod Heading
+pub mod Feeds
+pub mod Refused
+pub mod Short
+pub mod Figures
