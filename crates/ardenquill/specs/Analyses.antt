@@ -10,5 +10,5 @@ pub use Rattle.sizing.specs.Nodes.{xOf, yOf, stretchOf, x-pos, y-pos, y-stretch
 pub use Rattle.sizing.specs.Load.{busyIn, busyOf, cycleOf, parts-exact}
 pub use Rattle.sizing.specs.Sizes.{start, minimumOf, namingOf, capacityOf, marginOf, sizeBy, sizeOf, noSize, emptyAnalysis, analysisOf, sized, refusedWith, size-at}
 unfoldable pub use Rattle.sizing.specs.Checks.{analyseRefusal, analyseAnswer, runRefusal, runAnswer}
-pub use Rattle.sizing.specs.Checks.{limit, fast, rateTest, rateCheck, loadCheck, capacityTest, capacityCheck, sizeChecks, analyseChecks, runChecks, Slow, FirstFast, Short, Enough, FirstShort, analyse-2, analyse-4, analyse-5, analyse-6, analyse-7, run-parts, run-8}
+pub use Rattle.sizing.specs.Checks.{limit, tooLarge, rateTest, rateCheck, loadCheck, capacityTest, capacityCheck, sizeChecks, analyseChecks, runChecks, InLimit, FirstTooLarge, Short, Enough, FirstShort, analyse-2, analyse-4, analyse-5, analyse-6, analyse-7, run-parts, run-8}
 pub use Rattle.sizing.specs.Accepted.{Accepted, analyse-accepts, run-accepts, SizeFits, size-fits, busy-fits, cycle-fits}

@@ -35,11 +35,11 @@ module _ (f : List ℕ) (room : ℕ) where
           let rest = or-silents _ _ .0 (parts .1) in
           let own = first-silent (sizeChecks (chainOf f)) .0 (rest .0) in
           let file = read-accepts f .0 (parts .0) in
-          (file, (record { chain = file .chain; slow = rates-silent (chainOf f) .0 (own .0); load = load-silent (chainOf f) .0 (own .1 .0) }, fits .0 (rest .1)))
+          (file, (record { chain = file .chain; rates = rates-silent (chainOf f) .0 (own .0); load = load-silent (chainOf f) .0 (own .1 .0) }, fits .0 (rest .1)))
 
       back : AcceptedFile f × (Accepted (chainOf f) × (length (reportText f) ≤ room)) → Silent (reportRefusal f room)
       back h =
-          let own = first-silent (sizeChecks (chainOf f)) .1 (rates-silent (chainOf f) .1 (h .1 .0 .slow), (load-silent (chainOf f) .1 (h .1 .0 .load), tt)) in
+          let own = first-silent (sizeChecks (chainOf f)) .1 (rates-silent (chainOf f) .1 (h .1 .0 .rates), (load-silent (chainOf f) .1 (h .1 .0 .load), tt)) in
           silent-as (sym (report-parts f room)) (or-silents _ _ .1 (read-accepts f .1 (h .0), or-silents _ _ .1 (own, fits .1 (h .1 .1))))
 
   pub report-fine : Silent (reportRefusal f room) → reportRefusal f room ≡ fine

@@ -20,7 +20,7 @@ use Rattle.chainfile.specs.File.{countOf, queuesAt, nodesAt, chainOf, lengthChe
 use Rattle.chainfile.specs.Packed.{roomCheck, room-exact, room-only, room-last}
 use Rattle.sizing.specs.Load.{busyIn, busyOf, cycleOf}
 use Rattle.sizing.specs.Sizes.{analysisOf}
-use Rattle.sizing.specs.Checks.{rateCheck, sizeChecks, FirstFast, rate-exact, load-exact, rate-only, load-only}
+use Rattle.sizing.specs.Checks.{rateCheck, sizeChecks, FirstTooLarge, rate-exact, load-exact, rate-only, load-only}
 use Rattle.reporttext.specs.Text.{textOf}
 
 -- the report of a file
@@ -67,7 +67,7 @@ module _ (f : List ℕ) (room L : ℕ) where
   pub report-5 : (reportRefusal f room ≡ refused 5 L) ↔ (Silents (lengthCheck f ∷ countCheck (countOf f) ∷ fileOffsets f ∷ fileRange f ∷ []) × FirstOver (chainOf f) (queuesAt f) L)
   report-5 = Iff·trans (report-at 4 (omega arith)) (Iff·and Iff·rfl (order-exact L (chainOf f) (queuesAt f)))
 
-  pub report-6 : (reportRefusal f room ≡ refused 6 L) ↔ (Silents (readChecks f) × FirstFast (chainOf f) L)
+  pub report-6 : (reportRefusal f room ≡ refused 6 L) ↔ (Silents (readChecks f) × FirstTooLarge (chainOf f) L)
   report-6 = Iff·trans (report-at 5 (omega arith)) (Iff·and Iff·rfl (rate-exact (chainOf f) L))
 
   pub report-7 : (reportRefusal f room ≡ refused 7 L) ↔ (Silents (readChecks f ++ (rateCheck (chainOf f) ∷ [])) × ((cycleOf (chainOf f) < busyOf (chainOf f)) × (L ≡ 0)))

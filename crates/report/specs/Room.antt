@@ -24,7 +24,7 @@ report-room f room L l e =
     let h = t .0 in
     let file = read-accepts f .0 (first-silent (readChecks f) .1 (h .0, (h .1 .0, (h .1 .1 .0, (h .1 .1 .1 .0, (h .1 .1 .1 .1 .0, tt)))))) in
     let own = h .1 .1 .1 .1 .1 in
-    let accepted : Accepted (chainOf f) = record { chain = file .chain; slow = rates-silent (chainOf f) .0 (own .0); load = load-silent (chainOf f) .0 (own .1 .0) } in
+    let accepted : Accepted (chainOf f) = record { chain = file .chain; rates = rates-silent (chainOf f) .0 (own .0); load = load-silent (chainOf f) .0 (own .1 .0) } in
     omega (arith, report-short (chainOf f) accepted, t .1)
 
 pub refusal-room : (N L room : ℕ) → N < 2 ^ 32 → L < 2 ^ 32 → 30 ≤ room → roomCheck (length (refusalText N L)) room ≡ fine

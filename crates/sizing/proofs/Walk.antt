@@ -21,7 +21,7 @@ use Rattle.rates.specs.declared.Rate.{Rate}
 use Rattle.sizing.specs.Nodes.{xOf, yOf, stretchOf, x-pos, y-stretch, grows}
 use Rattle.sizing.specs.Load.{busyIn, busyOf, cycleOf, busy-next}
 use Rattle.sizing.specs.Sizes.{rowBy, row-known, sizeBy, sizeOf, noSize, analysisOf, sized, sized-refused, sized-fine, emptyAnalysis}
-use Rattle.sizing.specs.Checks.{limit, fast, fast-true, fast-false, Slow, FirstFast, sizeChecks, rateCheck, loadCheck, rate-exact, rates-silent, load-exact, load-silent}
+use Rattle.sizing.specs.Checks.{limit, tooLarge, too-large-true, too-large-false, InLimit, FirstTooLarge, sizeChecks, rateCheck, loadCheck, rate-exact, rates-silent, load-exact, load-silent}
 use Rattle.sizing.specs.declared.QueueSize.{QueueSize}
 use Rattle.sizing.specs.declared.Analysis.{Analysis}
 
@@ -29,14 +29,14 @@ use Rattle.sizing.specs.declared.Analysis.{Analysis}
 abbrev pub filled : Chain → ℕ → Analysis
 filled c i = record { n = c .n; queues = slots (sizeOf c) noSize 16 i; busy = 0; cycle = 0 }
 
--- before queue i: N_i's rate, the load of the nodes up to it, and the slots before i filled; no node up to N_i is too fast
+-- before queue i: N_i's rate, the load of the nodes up to it, and the slots before i filled; no rate up to N_i's is above the limit
 pub record Walked (c : Chain) (i x y busy : ℕ) (a : Analysis) : Type 0 where
   pub within : i ≤ c .n
   pub firings : x ≡ xOf c i
   pub ticks : y ≡ yOf c i
   pub load : busy ≡ capped (yOf c i) (busyIn c (yOf c i) i)
   pub fits : (x ≤ limit) × (y ≤ limit)
-  pub slow : (j : ℕ) → j < i → Slow c (suc j)
+  pub rates : (j : ℕ) → j < i → InLimit c (suc j)
   pub known : a ≡ filled c i
 
 -- the queue at i, whose consumer has the rate r
@@ -57,7 +57,7 @@ module _ (c : Chain) (s : Sound c) where
     ticks = refl;
     load = omega arith;
     fits = (omega arith, omega (arith, s .period .1));
-    slow = λ j l. absurd (omega arith);
+    rates = λ j l. absurd (omega arith);
     known = ap (λ (q : List QueueSize). record { n = c .n; queues = q; busy = 0; cycle = 0 }) (slots-none (sizeOf c) noSize 16);
   }
 
@@ -96,21 +96,21 @@ module _ (c : Chain) (s : Sound c) where
       let once : capped (yOf c (suc i)) (capped (yOf c i) B * stretchOf c i + d) ≡ capped (yOf c (suc i)) (B * stretchOf c i + d) = rw (y-stretch c s i l) (capped-step (yOf c i) B (stretchOf c i) d (grows c s i l)) in
       f ∙ ap (λ (n : ℕ). capped (yOf c (suc i)) (n * stretchOf c i + d)) e ∙ once ∙ ap (capped (yOf c (suc i))) (sym (busy-next c s i l))
 
-  pub walk-more : {i x y busy later : ℕ} {a : Analysis} {r : Rate} {q : QueueSize} → Walked c i x y busy a → Turn c i x y r → fast (r .x) (r .y) ≡ false
+  pub walk-more : {i x y busy later : ℕ} {a : Analysis} {r : Rate} {q : QueueSize} → Walked c i x y busy a → Turn c i x y r → tooLarge (r .x) (r .y) ≡ false
       → later ≡ capped (r .y) (busy * r .stretch + workOf c i * r .x) → q ≡ sizeBy (rowOf c i) (r .x) (r .y)
       → Walked c (i + 1) (r .x) (r .y) later (record { n = a .n; queues = set (a .queues) i q; busy = a .busy; cycle = a .cycle })
-  walk-more {i} {x} {y} {busy} {later} {a} {r} {q} w t not-fast el eq = rw add-one (record {
+  walk-more {i} {x} {y} {busy} {later} {a} {r} {q} w t within-limit el eq = rw add-one (record {
     within = t .inside;
     firings = ex;
     ticks = ey;
     load = next-load i busy later (t .inside) (w .load) loaded;
     fits = within;
-    slow = slow;
+    rates = rates;
     known = stored;
   })
     where
       within : (r .x ≤ limit) × (r .y ≤ limit)
-      within = fast-false (r .x) (r .y) .0 not-fast
+      within = too-large-false (r .x) (r .y) .0 within-limit
 
       ex : r .x ≡ xOf c (suc i)
       ex = next-x w t
@@ -121,8 +121,8 @@ module _ (c : Chain) (s : Sound c) where
       loaded : later ≡ capped (yOf c (suc i)) (busy * stretchOf c i + workOf c i * xOf c (suc i))
       loaded = rw (← ex, ← ey, ← next-stretch w t) el
 
-      slow : (j : ℕ) → j < suc i → Slow c (suc j)
-      slow j l = ⊎-elim (λ e. rw e (rw (← ex) (within .0), rw (← ey) (within .1))) (λ h. w .slow j h) (eq-or-lt-of-le (omega arith))
+      rates : (j : ℕ) → j < suc i → InLimit c (suc j)
+      rates j l = ⊎-elim (λ e. rw e (rw (← ex) (within .0), rw (← ey) (within .1))) (λ h. w .rates j h) (eq-or-lt-of-le (omega arith))
 
       stored : record { n = a .n; queues = set (a .queues) i q; busy = a .busy; cycle = a .cycle } ≡ filled c (suc i)
       stored =
@@ -133,31 +133,31 @@ module _ (c : Chain) (s : Sound c) where
           put b l = record { n = b .n; queues = l; busy = b .busy; cycle = b .cycle }
 
   -- a refusal that the first of the two checks gives, or the second where the first is silent
-  fast-first : {f : Refusal} → f ≡ rateCheck c → (Silent f → ⊥) → f ≡ first (sizeChecks c)
+  rate-first : {f : Refusal} → f ≡ rateCheck c → (Silent f → ⊥) → f ≡ first (sizeChecks c)
   unfolding first
-  fast-first e n = or-left _ e n
+  rate-first e n = or-left _ e n
 
   load-next : {f : Refusal} → Silent (rateCheck c) → f ≡ first (loadCheck c ∷ []) → f ≡ first (sizeChecks c)
   unfolding first
   load-next z e = or-right refl z e
 
-  -- the way out at 6: the queue's consumer is too fast
-  pub walk-fast : {i x y busy : ℕ} {a : Analysis} {r : Rate} → Walked c i x y busy a → Turn c i x y r → fast (r .x) (r .y) ≡ true
+  -- the way out at 6: the rate of the queue's consumer is above the limit
+  pub walk-too-large : {i x y busy : ℕ} {a : Analysis} {r : Rate} → Walked c i x y busy a → Turn c i x y r → tooLarge (r .x) (r .y) ≡ true
       → record { number = 6; place = i + 1; analysis = emptyAnalysis } ≡ sized (first (sizeChecks c)) c
-  walk-fast {i} {r = r} w t over =
+  walk-too-large {i} {r = r} w t over =
       let e : refused 6 (i + 1) ≡ rateCheck c = sym (rate-exact c (i + 1) .1 lowest) in
-      sized-refused (refused 6 (i + 1)) c (λ z. omega arith) ∙ ap (λ (f : Refusal). sized f c) (fast-first e (λ z. omega arith))
+      sized-refused (refused 6 (i + 1)) c (λ z. omega arith) ∙ ap (λ (f : Refusal). sized f c) (rate-first e (λ z. omega arith))
     where
-      earlier : (j : ℕ) → 1 ≤ j → j < i + 1 → Slow c j
+      earlier : (j : ℕ) → 1 ≤ j → j < i + 1 → InLimit c j
       earlier zero p l = absurd (omega arith)
-      earlier (suc j) p l = w .slow j (omega arith)
+      earlier (suc j) p l = w .rates j (omega arith)
 
-      lowest : FirstFast c (i + 1)
-      lowest = rw add-one (record { node = (omega arith, t .inside); above = ⊎-elim (λ h. inl (rw (← next-x w t) h)) (λ h. inr (rw (← next-y w t) h)) (fast-true (r .x) (r .y) .0 over); before = λ j p l. earlier j p (omega arith) })
+      lowest : FirstTooLarge c (i + 1)
+      lowest = rw add-one (record { node = (omega arith, t .inside); above = ⊎-elim (λ h. inl (rw (← next-x w t) h)) (λ h. inr (rw (← next-y w t) h)) (too-large-true (r .x) (r .y) .0 over); before = λ j p l. earlier j p (omega arith) })
 
   -- behind the last queue, every rate is within the limit
-  slow-end : {i x y busy : ℕ} {a : Analysis} → Walked c i x y busy a → c .n ≤ i → Silent (rateCheck c)
-  slow-end w l = rates-silent c .1 (λ j h. w .slow j (omega (arith, l)))
+  rates-end : {i x y busy : ℕ} {a : Analysis} → Walked c i x y busy a → c .n ≤ i → Silent (rateCheck c)
+  rates-end w l = rates-silent c .1 (λ j h. w .rates j (omega (arith, l)))
 
   whole-load : {i x y busy : ℕ} {a : Analysis} → Walked c i x y busy a → c .n ≤ i → busy ≡ capped (cycleOf c) (busyOf c)
   whole-load {i} w l = let e : i ≡ c .n = omega (arith, w .within) in w .load ∙ ap (λ (k : ℕ). capped (yOf c k) (busyIn c (yOf c k) k)) e
@@ -171,7 +171,7 @@ module _ (c : Chain) (s : Sound c) where
   walk-over {i} {x} {y} {busy} w l over =
       let above : cycleOf c < busyOf c = capped-above (cycleOf c) (busyOf c) .0 (rw (← whole-load w l, ← whole-cycle w l) over) in
       let e : refused 7 0 ≡ first (loadCheck c ∷ []) = sym (says-last 7 0 (λ z. omega arith) (loadCheck c) .1 (load-exact c 0 .1 (above, refl))) in
-      sized-refused (refused 7 0) c (λ z. omega arith) ∙ ap (λ (f : Refusal). sized f c) (load-next (slow-end w l) e)
+      sized-refused (refused 7 0) c (λ z. omega arith) ∙ ap (λ (f : Refusal). sized f c) (load-next (rates-end w l) e)
 
   -- the last way out: the whole analysis
   module _ {i x y busy : ℕ} {a : Analysis} (w : Walked c i x y busy a) (l : c .n ≤ i) (within : busy ≤ y) where
@@ -195,4 +195,4 @@ module _ (c : Chain) (s : Sound c) where
     unfolding Silents
     walk-end =
         let quiet : fine ≡ first (loadCheck c ∷ []) = sym (first-fine (loadCheck c ∷ []) (first-silent (loadCheck c ∷ []) .1 (load-silent c .1 not-over, tt))) in
-        ap (λ (b : Analysis). record { number = 0; place = 0; analysis = b }) whole ∙ sized-fine c (load-next (slow-end w l) quiet)
+        ap (λ (b : Analysis). record { number = 0; place = 0; analysis = b }) whole ∙ sized-fine c (load-next (rates-end w l) quiet)

@@ -21,13 +21,13 @@ use Rattle.onequeue.specs.Capacity.{margin}
 use Rattle.sizing.specs.Nodes.{yOf}
 use Rattle.sizing.specs.Load.{busyOf, cycleOf}
 use Rattle.sizing.specs.Sizes.{sizeBy, sizeOf, minimum-most, naming-most, capacity-most}
-use Rattle.sizing.specs.Checks.{limit, Slow, Enough, sizeChecks, analyseRefusal, runRefusal, capacityCheck, analyse-parts, run-parts, rates-silent, load-silent, capacity-silent}
+use Rattle.sizing.specs.Checks.{limit, InLimit, Enough, sizeChecks, analyseRefusal, runRefusal, capacityCheck, analyse-parts, run-parts, rates-silent, load-silent, capacity-silent}
 use Rattle.sizing.specs.declared.QueueSize.{QueueSize}
 
 -- "a chain it doesn't refuse is accepted"
 pub record Accepted (c : Chain) : Type 0 where
   pub chain : Sound c
-  pub slow : (i : ℕ) → i < c .n → Slow c (suc i)
+  pub rates : (i : ℕ) → i < c .n → InLimit c (suc i)
   pub load : busyOf c ≤ cycleOf c
 
 pub analyse-accepts : (c : Chain) → Silent (analyseRefusal c) ↔ Accepted c
@@ -38,11 +38,11 @@ analyse-accepts c = (out, back)
     out z =
         let parts = or-silents _ _ .0 (silent-as (analyse-parts c) z) in
         let own = first-silent (sizeChecks c) .0 (parts .1) in
-        record { chain = sound c .0 (parts .0); slow = rates-silent c .0 (own .0); load = load-silent c .0 (own .1 .0) }
+        record { chain = sound c .0 (parts .0); rates = rates-silent c .0 (own .0); load = load-silent c .0 (own .1 .0) }
 
     back : Accepted c → Silent (analyseRefusal c)
     back a =
-        let own = first-silent (sizeChecks c) .1 (rates-silent c .1 (a .slow), (load-silent c .1 (a .load), tt)) in
+        let own = first-silent (sizeChecks c) .1 (rates-silent c .1 (a .rates), (load-silent c .1 (a .load), tt)) in
         silent-as (sym (analyse-parts c)) (or-silents _ _ .1 (sound c .1 (a .chain), own))
 
 pub run-accepts : (c : Chain) → Silent (runRefusal c) ↔ (Accepted c × ((i : ℕ) → i < c .n → Enough c i))
@@ -73,8 +73,8 @@ module _ (c : Chain) (a : Accepted c) where
   size-fits i l =
       let row = a .chain .rows i l in
       record {
-        x = a .slow i l .0;
-        y = a .slow i l .1;
+        x = a .rates i l .0;
+        y = a .rates i l .1;
         minimum = minimum-most row;
         by = naming-most row;
         capacity = capacity-most row;
@@ -86,7 +86,7 @@ module _ (c : Chain) (a : Accepted c) where
     where
       last : (k : ℕ) → k ≡ c .n → yOf c k ≤ limit
       last zero e = absurd (omega (arith, a .chain .count .0))
-      last (suc k) e = a .slow k (omega arith) .1
+      last (suc k) e = a .rates k (omega arith) .1
 
   pub busy-fits : busyOf c ≤ limit
   busy-fits = le-trans (a .load) cycle-fits

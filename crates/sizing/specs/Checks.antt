@@ -1,5 +1,5 @@
 -- The checks of the analysis, 6 and 7, and of a run, 8 (01, Numbers a call may refuse with).
---   limit, fast x y            4,294,967,295, and whether a rate passes it (fast-true, -false)
+--   limit, tooLarge x y        4,294,967,295, and whether a rate passes it (too-large-true, -false)
 --   rateTest c i, rateCheck c  6 of node i+1, and of the chain: the lowest such node
 --   loadCheck c                7: overloaded
 --   capacityTest c i, capacityCheck c
@@ -11,7 +11,7 @@
 --                              what a chain is refused with, and the whole answer
 --   analyse-parts, run-parts   each list is the one before it, and then its own checks
 --   shortIn a                  8 as an analysis shows it; short-is-capacity: which is 8 of the chain
---   Slow, FirstFast, Short, Enough, FirstShort
+--   InLimit, FirstTooLarge, Short, Enough, FirstShort
 --                              01's conditions of 6 and 8, in words
 --   rate-, load-, capacity-exact, -silent, -only
 --                              each check speaks exactly under its condition, is silent elsewhere, and speaks with its own number
@@ -47,12 +47,12 @@ abbrev pub limit : ℕ
 limit = 4294967295
 
 -- "some x or y of a rate is above 4,294,967,295"
-abbrev pub fast : ℕ → ℕ → Bool
-fast x y = ltb limit x || ltb limit y
+abbrev pub tooLarge : ℕ → ℕ → Bool
+tooLarge x y = ltb limit x || ltb limit y
 
 -- 6 of one node, place the node
 abbrev pub rateTest : Chain → ℕ → Refusal
-rateTest c i = test 6 (suc i) (fast (xOf c (suc i)) (yOf c (suc i)))
+rateTest c i = test 6 (suc i) (tooLarge (xOf c (suc i)) (yOf c (suc i)))
 
 -- 6: the "lowest node"
 unfoldable pub rateCheck : Chain → Refusal
@@ -108,11 +108,11 @@ unfoldable pub runAnswer : Chain → AnalysisAnswer
 unfolding runRefusal sized
 runAnswer c = sized (runRefusal c) c
 
-pub fast-true : (x y : ℕ) → (fast x y ≡ true) ↔ ((limit < x) ⊎ (limit < y))
-fast-true x y = or-true (below-true limit x) (below-true limit y)
+pub too-large-true : (x y : ℕ) → (tooLarge x y ≡ true) ↔ ((limit < x) ⊎ (limit < y))
+too-large-true x y = or-true (below-true limit x) (below-true limit y)
 
-pub fast-false : (x y : ℕ) → (fast x y ≡ false) ↔ ((x ≤ limit) × (y ≤ limit))
-fast-false x y = or-false (below-false limit x) (below-false limit y)
+pub too-large-false : (x y : ℕ) → (tooLarge x y ≡ false) ↔ ((x ≤ limit) × (y ≤ limit))
+too-large-false x y = or-false (below-false limit x) (below-false limit y)
 
 -- the checks of the record, then 6 and 7; and those of the analysis, then 8
 pub analyse-parts : (c : Chain) → analyseRefusal c ≡ orElse (chainRefusal c) (first (sizeChecks c))
@@ -124,36 +124,36 @@ unfolding runRefusal analyseRefusal capacityCheck first
 run-parts c = first-append (analyseChecks c) (capacityCheck c ∷ []) ∙ ap (orElse (first (analyseChecks c))) (first-last (tab (c .n) (capacityTest c)))
 
 -- both numbers of N_i's rate are within the limit
-abbrev pub Slow : Chain → ℕ → Type 0
-Slow c i = (xOf c i ≤ limit) × (yOf c i ≤ limit)
+abbrev pub InLimit : Chain → ℕ → Type 0
+InLimit c i = (xOf c i ≤ limit) × (yOf c i ≤ limit)
 
 -- 6 in words: L is the lowest node of which x or y passes the limit
-pub record FirstFast (c : Chain) (L : ℕ) : Type 0 where
+pub record FirstTooLarge (c : Chain) (L : ℕ) : Type 0 where
   pub node : (1 ≤ L) × (L ≤ c .n)
   pub above : (limit < xOf c L) ⊎ (limit < yOf c L)
-  pub before : (j : ℕ) → 1 ≤ j → j < L → Slow c j
+  pub before : (j : ℕ) → 1 ≤ j → j < L → InLimit c j
 
 module _ (c : Chain) where
-  pub rate-silent : (i : ℕ) → Silent (rateTest c i) ↔ Slow c (suc i)
-  rate-silent i = Iff·trans (test-silent 6 (suc i) (λ e. omega arith) _) (fast-false (xOf c (suc i)) (yOf c (suc i)))
+  pub rate-silent : (i : ℕ) → Silent (rateTest c i) ↔ InLimit c (suc i)
+  rate-silent i = Iff·trans (test-silent 6 (suc i) (λ e. omega arith) _) (too-large-false (xOf c (suc i)) (yOf c (suc i)))
 
   rate-says : (i L : ℕ) → (rateTest c i ≡ refused 6 L) ↔ (((limit < xOf c (suc i)) ⊎ (limit < yOf c (suc i))) × (L ≡ suc i))
-  rate-says i L = Iff·trans (test-exact 6 L (suc i) (λ e. omega arith) _) (Iff·and (fast-true (xOf c (suc i)) (yOf c (suc i))) Iff·rfl)
+  rate-says i L = Iff·trans (test-exact 6 L (suc i) (λ e. omega arith) _) (Iff·and (too-large-true (xOf c (suc i)) (yOf c (suc i))) Iff·rfl)
 
-  pub rate-exact : (L : ℕ) → (rateCheck c ≡ refused 6 L) ↔ FirstFast c L
+  pub rate-exact : (L : ℕ) → (rateCheck c ≡ refused 6 L) ↔ FirstTooLarge c L
   unfolding rateCheck
   rate-exact L = Iff·trans (lowest-is 6 L (λ e. omega arith) (rateTest c) (c .n)) (out, back L)
     where
-      earlier : (k : ℕ) → ((j : ℕ) → j < k → Silent (rateTest c j)) → (j : ℕ) → 1 ≤ j → j < suc k → Slow c j
+      earlier : (k : ℕ) → ((j : ℕ) → j < k → Silent (rateTest c j)) → (j : ℕ) → 1 ≤ j → j < suc k → InLimit c j
       earlier k h zero p l = absurd (omega arith)
       earlier k h (suc j) p l = rate-silent j .0 (h j (omega arith))
 
-      out : Lowest (rateTest c) (c .n) 6 L → FirstFast c L
+      out : Lowest (rateTest c) (c .n) 6 L → FirstTooLarge c L
       out f =
           let e = rate-says (f .at) L .0 (f .says) in
           rw (e .1) (record { node = (omega arith, f .inside); above = e .0; before = earlier (f .at) (f .before) })
 
-      back : (m : ℕ) → FirstFast c m → Lowest (rateTest c) (c .n) 6 m
+      back : (m : ℕ) → FirstTooLarge c m → Lowest (rateTest c) (c .n) 6 m
       back zero f = absurd (omega (arith, f .node .0))
       back (suc k) f = record {
         at = k;
@@ -162,7 +162,7 @@ module _ (c : Chain) where
         before = λ j l. rate-silent j .1 (f .before (suc j) (omega arith) (omega arith));
       }
 
-  pub rates-silent : Silent (rateCheck c) ↔ ((i : ℕ) → i < c .n → Slow c (suc i))
+  pub rates-silent : Silent (rateCheck c) ↔ ((i : ℕ) → i < c .n → InLimit c (suc i))
   unfolding rateCheck
   rates-silent = Iff·trans (all-silent (rateTest c) (c .n)) (λ h i l. rate-silent i .0 (h i l), λ h i l. rate-silent i .1 (h i l))
 
@@ -230,7 +230,7 @@ module _ (c : Chain) where
   -- each check speaks with its own number only
   pub rate-only : Only 6 (rateCheck c)
   unfolding rateCheck
-  rate-only = only-tab 6 (rateTest c) (λ i. only-test 6 (suc i) (fast (xOf c (suc i)) (yOf c (suc i)))) (c .n)
+  rate-only = only-tab 6 (rateTest c) (λ i. only-test 6 (suc i) (tooLarge (xOf c (suc i)) (yOf c (suc i)))) (c .n)
 
   pub load-only : Only 7 (loadCheck c)
   load-only = only-test 7 0 (ltb (cycleOf c) (busyOf c))
@@ -257,7 +257,7 @@ module _ (c : Chain) (L : ℕ) where
   pub analyse-5 : (analyseRefusal c ≡ refused 5 L) ↔ (Silents (countCheck (c .n) ∷ recordRange c ∷ []) × FirstOver c 20 L)
   analyse-5 = Iff·trans (analyse-at 2 (omega arith)) (Iff·and Iff·rfl (order-exact L c 20))
 
-  pub analyse-6 : (analyseRefusal c ≡ refused 6 L) ↔ (Silents (chainChecks c) × FirstFast c L)
+  pub analyse-6 : (analyseRefusal c ≡ refused 6 L) ↔ (Silents (chainChecks c) × FirstTooLarge c L)
   analyse-6 = Iff·trans (analyse-at 3 (omega arith)) (Iff·and Iff·rfl (rate-exact c L))
 
   pub analyse-7 : (analyseRefusal c ≡ refused 7 L) ↔ (Silents (chainChecks c ++ (rateCheck c ∷ [])) × ((cycleOf c < busyOf c) × (L ≡ 0)))

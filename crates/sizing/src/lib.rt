@@ -5,7 +5,7 @@ ghost use Rattle.chain.specs.Refusals.{first};
 ghost use Rattle.chain.specs.Sound.{Sound, SoundRow};
 ghost use Rattle.chain.specs.Faults.{Few};
 ghost use Rattle.sizing.specs.Sizes.{sizeBy, sized, refusedWith, rowBy, Parted};
-ghost use Rattle.sizing.specs.Checks.{fast, sizeChecks, analyseAnswer, runAnswer, shortIn};
+ghost use Rattle.sizing.specs.Checks.{tooLarge, sizeChecks, analyseAnswer, runAnswer, shortIn};
 use chain::Chain;
 use chain::Queue;
 use chain::Refusal;
@@ -103,7 +103,7 @@ pub fn sized(chain: Chain) -> AnalysisAnswer
         let q = chain.queues[i];
         let row = parted(q);
         let rate = rates::rate_after(row, x, y);
-        if is_fast(rate) {
+        if is_too_large(rate) {
             return refused(6, (i + 1) as u32);
         }
         x = rate.x as u32;
@@ -136,8 +136,8 @@ fn refused(number: u32, place: u32) -> AnalysisAnswer
 }
 
 // Whether a rate passes the limit.
-fn is_fast(rate: Rate) -> bool
-    ensures { λ r. ⌜ r ≡ fast (rate .x) (rate .y) ⌝ }
+fn is_too_large(rate: Rate) -> bool
+    ensures { λ r. ⌜ r ≡ tooLarge (rate .x) (rate .y) ⌝ }
 {
     LIMIT < rate.x || LIMIT < rate.y
 }

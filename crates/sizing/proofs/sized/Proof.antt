@@ -3,8 +3,8 @@ use mathlib.Core.Path.{sym, _∙_}
 use Prim.Native.Nat.{_-_}
 use native.Mathlib.Omega.{arith}
 use borrow.Author.Needs.{needs}
-use Rattle.sizing.specs.Checks.{fast-false}
-use Rattle.sizing.proofs.Walk.{Walked, turn, walk-none, walk-step, walk-small, walk-more, walk-fast, walk-over, walk-end}
+use Rattle.sizing.specs.Checks.{too-large-false}
+use Rattle.sizing.proofs.Walk.{Walked, turn, walk-none, walk-step, walk-small, walk-more, walk-too-large, walk-over, walk-end}
 use Rattle.sizing.proofs.sized.Statement.{statement}
 use Rattle.sizing.proofs.sized.Tie as tie
 
@@ -41,8 +41,8 @@ rate-after-requires c κs =
     walk-step (l .before .args .t1) (l .before .pre) (l .loop .inv) (c .before .before .loop-test .taken) (c .parted .ensures)
 
 -- src/lib.rt:106:12
-is-fast-requires : tie.Need-is-fast-requires Inv-loop μ-loop
-is-fast-requires c κs = search needs
+is-too-large-requires : tie.Need-is-too-large-requires Inv-loop μ-loop
+is-too-large-requires c κs = search needs
 
 -- src/lib.rt:107:32
 add-refused : tie.Need-add-refused Inv-loop μ-loop
@@ -62,21 +62,21 @@ returns c =
     let r = c .before .before .before in
     let l = r .before .before .before .before in
     let t = turn (r .before .before .before .loop-test .taken) (r .before .parted .ensures) (r .rate-after .ensures) in
-    c .refused .ensures ∙ walk-fast (l .before .args .t1) (l .before .pre) (l .loop .inv) t (sym (c .before .before .is-fast .ensures) ∙ c .before .if1 .taken)
+    c .refused .ensures ∙ walk-too-large (l .before .args .t1) (l .before .pre) (l .loop .inv) t (sym (c .before .before .is-too-large .ensures) ∙ c .before .if1 .taken)
 
 -- src/lib.rt:109:13
 cast-x : tie.Need-cast-x Inv-loop μ-loop
 cast-x c =
     let r = c .before .before .before .rate-after .result in
-    let slow = fast-false (r .x) (r .y) .0 (sym (c .before .before .is-fast .ensures) ∙ c .before .if1 .left) in
-    omega (arith, slow .0)
+    let within = too-large-false (r .x) (r .y) .0 (sym (c .before .before .is-too-large .ensures) ∙ c .before .if1 .left) in
+    omega (arith, within .0)
 
 -- src/lib.rt:110:13
 cast-y : tie.Need-cast-y Inv-loop μ-loop
 cast-y c =
     let r = c .before .before .before .before .rate-after .result in
-    let slow = fast-false (r .x) (r .y) .0 (sym (c .before .before .before .is-fast .ensures) ∙ c .before .before .if1 .left) in
-    omega (arith, slow .1)
+    let within = too-large-false (r .x) (r .y) .0 (sym (c .before .before .before .is-too-large .ensures) ∙ c .before .before .if1 .left) in
+    omega (arith, within .1)
 
 -- src/lib.rt:111:54
 mul-busy-after : tie.Need-mul-busy-after Inv-loop μ-loop
@@ -122,8 +122,8 @@ loop-again c =
     let r = c .before .before .before .before .before .before .before in
     let l = r .before .before .before .before in
     let t = turn (r .before .before .before .loop-test .taken) (r .before .parted .ensures) (r .rate-after .ensures) in
-    let slow = sym (c .before .before .before .before .before .before .is-fast .ensures) ∙ c .before .before .before .before .before .if1 .left in
-    walk-more (l .before .args .t1) (l .before .pre) (l .loop .inv) t slow (c .before .busy-after .ensures) (c .size-of .ensures)
+    let within = sym (c .before .before .before .before .before .before .is-too-large .ensures) ∙ c .before .before .before .before .before .if1 .left in
+    walk-more (l .before .args .t1) (l .before .pre) (l .loop .inv) t within (c .before .busy-after .ensures) (c .size-of .ensures)
 
 -- src/lib.rt:115:9
 cast-if2 : tie.Need-cast-if2 Inv-loop μ-loop
@@ -161,7 +161,7 @@ sized-spec =
     element-copy-out-q
     parted-requires
     rate-after-requires
-    is-fast-requires
+    is-too-large-requires
     add-refused
     cast-refused
     refused-requires
