@@ -5,9 +5,9 @@ ghost use Prim.Native.Nat.{_/_};
 ghost use Rattle.arith.specs.Gcd.{gcd};
 ghost use Rattle.arith.specs.Division.{Divisor};
 
-// The greatest number that divides both `a` and `b`; where one of them is 0, the other. One loop of 64 bits serves every
-// size: the compiler itself divides in 32 bits where both numbers fit them. A remainder of 1 ends it one division early.
-pub fn gcd(a: u64, b: u64) -> u64
+// The greatest number that divides both `a` and `b`; where one of them is 0, the other. A remainder of 1 ends the loop one
+// division early.
+pub fn gcd(a: u32, b: u32) -> u32
     ensures { λ r. ⌜ r ≡ gcd a b ⌝ }
 {
     let mut x = a;

@@ -1,8 +1,10 @@
 -- The figures that the scope marks P, in one table under one statement: each row's answer is what the call answers.
+--   feed, permeate, flush    the factory chains
+--   permeateWritten, feedConsuming c, largeCycle
+--                            what the figures change in them, and P10's chain
 --   table                    the questions with their answers
---   same, right, all-right   the computed test
---   right-rows               what the test decides
---   figures                  the statement
+--   same, allRight           the computed test
+--   figures                  the statement: what the test decides of the table
 use mathlib.Core.Path.{_≡_, refl, ap₂}
 use mathlib.Core.Bool.{Bool, true, false, _&&_}
 use mathlib.Core.List.{List, [], _∷_}
@@ -12,7 +14,7 @@ use lib.Dec.{T, eqb, eqb→eq}
 use lib.ListN.{length, getD}
 use Rattle.ardenquill.specs.Chains.{queue, made, factoryAnswer}
 use Rattle.chain.specs.declared.Chain.{Chain}
-use Rattle.figures.specs.Questions.{Question, analyse, answerTo}
+use Rattle.figures.specs.Questions.{Question, analyse, checkedForRun, answerTo}
 
 -- the factory chains, and what the figures change in them
 abbrev pub feed : Chain
@@ -30,8 +32,8 @@ permeateWritten = made 5 (queue 4 7 3 12 ∷ queue 3 4 2 5 ∷ []) (1 ∷ 1 ∷ 
 abbrev pub feedConsuming : ℕ → Chain
 feedConsuming c = made 10 (queue 4 7 c 0 ∷ []) (2 ∷ [])
 
-abbrev pub slowest : Chain
-slowest = made 1000000 (queue 1 65521 65521 0 ∷ []) (1 ∷ [])
+abbrev pub largeCycle : Chain
+largeCycle = made 1000000 (queue 1 65521 65521 0 ∷ []) (1 ∷ [])
 
 -- an answer: number, place, n; for each queue x, y, minimum, naming count, capacity, sign and size of the margin; busy, cycle
 abbrev pub table : List (Question × List ℕ)
@@ -42,13 +44,14 @@ table =
     ∷ (analyse permeate, (0 ∷ 0 ∷ 2 ∷ 4 ∷ 15 ∷ 10 ∷ 4 ∷ 10 ∷ 0 ∷ 0 ∷ 6 ∷ 15 ∷ 6 ∷ 3 ∷ 6 ∷ 0 ∷ 0 ∷ 10 ∷ 15 ∷ []))
     -- P3, and P6's 4 and 8
     ∷ (analyse flush, (0 ∷ 0 ∷ 2 ∷ 1 ∷ 100 ∷ 64 ∷ 4 ∷ 64 ∷ 0 ∷ 0 ∷ 1 ∷ 800 ∷ 8 ∷ 8 ∷ 8 ∷ 0 ∷ 0 ∷ 43 ∷ 800 ∷ []))
-    -- P4: margins 2 and -1
+    -- P4: margins 2 and -1; what runs it refuses 8, place 1
     ∷ (analyse permeateWritten, (0 ∷ 0 ∷ 2 ∷ 4 ∷ 15 ∷ 10 ∷ 4 ∷ 12 ∷ 0 ∷ 2 ∷ 6 ∷ 15 ∷ 6 ∷ 3 ∷ 5 ∷ 1 ∷ 1 ∷ 10 ∷ 15 ∷ []))
+    ∷ (checkedForRun permeateWritten, (8 ∷ 1 ∷ 0 ∷ 0 ∷ 0 ∷ []))
     -- P9: c = τ is accepted, c = τ + 1 refused 5 at the place of c
     ∷ (analyse (feedConsuming 7), (0 ∷ 0 ∷ 1 ∷ 4 ∷ 70 ∷ 10 ∷ 7 ∷ 10 ∷ 0 ∷ 0 ∷ 8 ∷ 70 ∷ []))
     ∷ (analyse (feedConsuming 8), (5 ∷ 28 ∷ 0 ∷ 0 ∷ 0 ∷ []))
     -- P10: y would be 65,521,000,000
-    ∷ (analyse slowest, (6 ∷ 1 ∷ 0 ∷ 0 ∷ 0 ∷ []))
+    ∷ (analyse largeCycle, (6 ∷ 1 ∷ 0 ∷ 0 ∷ 0 ∷ []))
     ∷ []
 
 -- whether two lists of numbers are the same

@@ -8,7 +8,7 @@ use Prim.Native.Nat.{ℕ, suc}
 use lib.ListN.{getD}
 use lib.IntN.{ℤ, pos, negsuc}
 use Rattle.ardenquill.specs.Chains.{flat}
-use Rattle.ardenquill.specs.Analyses.{noSize, analyseAnswer}
+use Rattle.ardenquill.specs.Analyses.{noSize, analyseAnswer, runAnswer}
 use Rattle.chain.specs.declared.Chain.{Chain}
 use Rattle.sizing.specs.declared.QueueSize.{QueueSize}
 use Rattle.sizing.specs.declared.AnalysisAnswer.{AnalysisAnswer}
@@ -16,6 +16,7 @@ use Rattle.sizing.specs.declared.AnalysisAnswer.{AnalysisAnswer}
 -- a call with its arguments
 pub data Question : Type 0 where
   analyse : Chain → Question
+  checkedForRun : Chain → Question
 
 -- 0 and z, or 1 and how far z is below 0
 unfoldable pub signed : ℤ → List ℕ
@@ -34,5 +35,6 @@ analysed r = r .number ∷ r .place ∷ r .analysis .n ∷ (flat (λ i. sizes (g
 
 -- what the call answers
 unfoldable pub answerTo : Question → List ℕ
-unfolding analysed analyseAnswer
+unfolding analysed analyseAnswer runAnswer
 answerTo (analyse c) = analysed (analyseAnswer c)
+answerTo (checkedForRun c) = analysed (runAnswer c)

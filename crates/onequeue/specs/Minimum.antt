@@ -6,7 +6,7 @@
 --                       it is at least p and at least τ, less than τ + p, and so at most 131,069
 --   minimum-rest        it is computed with one remainder
 --   naming s p τ c      the naming count: so many firings of the producer show b
---   Reaches s p τ c q   q firings of the producer, and no fewer, bring the contents from s to τ - c
+--   Reaches s p τ c q   q firings of the producer, and no fewer, bring the contents from s to τ - c; naming-reaches: there is such a q
 --   naming-is           the count is q + w for that q and the w with gcd p c * w = c, so it is the only such number
 --   naming-pos, -fits   it is not 0, and at most τ
 use mathlib.Core.Path.{_≡_, sym, _∙_, ap, ap₂}
@@ -59,6 +59,10 @@ naming s p τ c = ceil (τ - c - s) p + c / gcd p c
 pub record Reaches (s p τ c q : ℕ) : Type 0 where
   pub enough : τ ≤ s + p * q + c
   pub least : (m : ℕ) → τ ≤ s + p * m + c → q ≤ m
+
+-- which the first part of the naming count is
+pub naming-reaches : (s p τ c : ℕ) → 0 < p → Reaches s p τ c (ceil (τ - c - s) p)
+naming-reaches s p τ c hp = record { enough = omega (arith, ceil-above (τ - c - s) p hp); least = λ m l. ceil-least (τ - c - s) p m (omega arith) }
 
 pub naming-is : (s p τ c q w : ℕ) → 0 < p → Reaches s p τ c q → gcd p c * w ≡ c → naming s p τ c ≡ q + w
 unfolding naming

@@ -11,7 +11,7 @@
 --   stretch-least            and in no smaller number of y can it: the rate is not 003's with another g
 --   next-pos, stretch-pos    neither x nor y nor stretch is 0
 --   stretch-below            stretch is at most c
---   by-parts                 the same numbers by the gcd of p and c, and of x and what that leaves of c
+--   rate-by-parts            the same numbers by the gcd of p and c, and of x and what that leaves of c
 --   Step q x                 what the code of a step asks
 use mathlib.Core.Path.{_≡_, refl, sym, ap, _∙_}
 use Prim.Native.Nat.{ℕ, _*_, _/_, _≤_, _<_, _∣_}
@@ -115,22 +115,18 @@ pub record Step (q : Row) (x : ℕ) : Type 0 where
 
 -- the same numbers by the gcd of p and c, and of x and what that leaves of c
 module _ (p c x : ℕ) (hc : 0 < c) where
-  -- what the gcd of p and c leaves of c
-  abbrev pub rest : ℕ
-  rest = c / gcd p c
-
-  common-parts : common p c x ≡ gcd p c * gcd x rest
+  common-parts : common p c x ≡ gcd p c * gcd x (c / gcd p c)
   unfolding common
   common-parts = gcd-product p x c
 
-  pub stretch-by-parts : stretch p c x ≡ rest / gcd x rest
+  stretch-by-parts : stretch p c x ≡ c / gcd p c / gcd x (c / gcd p c)
   unfolding stretch
-  stretch-by-parts = rw common-parts (sym (div-div-eq-div-mul c (gcd p c) (gcd x rest)))
+  stretch-by-parts = rw common-parts (sym (div-div-eq-div-mul c (gcd p c) (gcd x (c / gcd p c))))
 
-  pub next-by-parts : nextX p c x ≡ p / gcd p c * (x / gcd x rest)
+  next-by-parts : nextX p c x ≡ p / gcd p c * (x / gcd x (c / gcd p c))
   unfolding nextX
-  next-by-parts = exact (p * x) (common p c x) (p / gcd p c * (x / gcd x rest)) (common-pos p c x hc)
-      (rw common-parts (products p x (gcd p c) (gcd x rest) (p / gcd p c) (x / gcd x rest) (gcd-mul-left p c) (gcd-mul-left x rest)))
+  next-by-parts = exact (p * x) (common p c x) _ (common-pos p c x hc)
+      (rw common-parts (products p x (gcd p c) (gcd x (c / gcd p c)) _ _ (gcd-mul-left p c) (gcd-mul-left x (c / gcd p c))))
     where
       products : (a b g h s t : ℕ) → g * s ≡ a → h * t ≡ b → a * b ≡ g * h * (s * t)
       products a b g h s t ea eb = omega (arith, ap (λ (n : ℕ). n * b) ea, ap (λ (n : ℕ). g * s * n) eb)
@@ -139,5 +135,4 @@ module _ (p c x : ℕ) (hc : 0 < c) where
 pub rate-by-parts : (p c g w x y h : ℕ) → 0 < c → g ≡ gcd p c → w ≡ c / g → h ≡ gcd x w → record { x = p / g * (x / h); y = w / h * y; stretch = w / h } ≡ rateAfter p c x y
 unfolding rateAfter
 rate-by-parts p c g w x y h hc eg ew eh =
-    let s : stretch p c x ≡ c / gcd p c / gcd x (rest p c x hc) = stretch-by-parts p c x hc in
-    rw (eh, ew, eg, next-by-parts p c x hc, next-stretch p c x hc y, s)
+    rw (eh, ew, eg, next-by-parts p c x hc, next-stretch p c x hc y, stretch-by-parts p c x hc)

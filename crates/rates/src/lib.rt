@@ -18,7 +18,7 @@ pub fn rate_after(q: Row, x: u32, y: u32) -> Rate
     requires { ⌜ Step q x ⌝ }
     ensures { λ r. ⌜ r ≡ rateAfter (q .produce) (q .consume) x y ⌝ }
 {
-    let common = arith::gcd(x as u64, q.share as u64) as u32;
+    let common = arith::gcd(x, q.share);
     let stretch = arith::quotient(q.share, common);
     Rate {
         x: (arith::quotient(q.produce, q.g) as u64) * (arith::quotient(x, common) as u64),

@@ -10,16 +10,16 @@
 --   analyseRefusal c, runRefusal c, analyseAnswer c, runAnswer c
 --                              what a chain is refused with, and the whole answer
 --   analyse-parts, run-parts   each list is the one before it, and then its own checks
---   shortIn a                  8 as an analysis shows it; short-is-capacity: which is 8 of the chain
+--   shortTest a i, shortIn a   8 as an analysis shows it; short-is-capacity: which is 8 of the chain
 --   InLimit, FirstTooLarge, Short, Enough, FirstShort
 --                              01's conditions of 6 and 8, in words
---   rate-, load-, capacity-exact, -silent, -only
+--   rate-, rates-, load-, enough-, capacity-exact, -silent, -only
 --                              each check speaks exactly under its condition, is silent elsewhere, and speaks with its own number
---   analyse-2 to analyse-7, run-8
+--   analyse-2 to analyse-7, run-8, run-earlier
 --                              when a chain is refused with each number
-use mathlib.Core.Path.{_≡_, refl, ap, _∙_}
+use mathlib.Core.Path.{_≡_, refl, sym, ap, _∙_}
 use mathlib.Core.Bool.{Bool, true, false, cond, not, _||_, _&&_}
-use mathlib.Core.Logic.{_↔_, _≢_, _⊎_, Iff·trans, Iff·and, Iff·rfl, true-and}
+use mathlib.Core.Logic.{_↔_, _≢_, _⊎_, inl, ⊎-elim, Iff·trans, Iff·and, Iff·rfl, true-and}
 use mathlib.Core.List.{List, [], _∷_, _++_}
 use Prim.Native.Nat.{ℕ, zero, suc, _+_, _*_, _≤_, _<_}
 use native.Mathlib.Nat.{le-refl}
@@ -29,7 +29,7 @@ use borrow.Author.Tests.{le-ltb}
 use lib.ListN.{getD, take}
 use Rattle.words.specs.Table.{tab, tab-alike}
 use Rattle.chain.specs.Tests.{Out, below-true, below-false, differ-true, differ-false, or-true, or-false, and-true, and-false}
-use Rattle.chain.specs.Refusals.{refused, fine, test, first, orElse, first-append, first-last, Silent, Silents, Numbered, exact-at, Lowest, lowest-is, Only, only-test, only-tab, test-exact, test-silent, all-silent}
+use Rattle.chain.specs.Refusals.{refused, fine, test, first, orElse, first-append, first-last, Silent, Silents, number-of, or-says, Numbered, exact-at, Lowest, lowest-is, Only, only-test, only-tab, test-exact, test-silent, all-silent}
 use Rattle.chain.specs.Record.{rowOf}
 use Rattle.chain.specs.Checks.{countCheck, rangeCheck, orderCheck, recordRange, chainChecks, chainRefusal, fields, FirstOut, FirstOver, count-exact, range-exact, order-exact, count-only, range-only, order-only}
 use Rattle.chain.specs.declared.Refusal.{Refusal}
@@ -268,3 +268,10 @@ module _ (c : Chain) (L : ℕ) where
   run-8 = Iff·trans (exact-at (2 ∷ 4 ∷ 5 ∷ 6 ∷ 7 ∷ 8 ∷ []) (runChecks c)
       (count-only (c .n), (range-only c 20 (20 + 20 * c .n), (order-only c 20, (rate-only c, (load-only c, (capacity-only c, tt))))))
       tt 5 L (omega arith)) (Iff·and Iff·rfl (capacity-exact c L))
+
+  -- every other number is said of a chain that is to be run exactly when the analysis says it
+  pub run-earlier : (N : ℕ) → N ≢ 0 → N ≢ 8 → (runRefusal c ≡ refused N L) ↔ (analyseRefusal c ≡ refused N L)
+  run-earlier N some other = rw (run-parts c) (Iff·trans (or-says N L some (analyseRefusal c) (capacityCheck c)) (⊎-elim (λ e. e) late, inl))
+    where
+      late : Silent (analyseRefusal c) × (capacityCheck c ≡ refused N L) → analyseRefusal c ≡ refused N L
+      late h = absurd (other (sym (number-of (h .1)) ∙ capacity-only c (λ z. some (sym (number-of (h .1)) ∙ z))))

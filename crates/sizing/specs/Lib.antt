@@ -3,3 +3,4 @@ pub mod Load
 pub mod Sizes
 pub mod Checks
 pub mod Accepted
+pub mod Figures

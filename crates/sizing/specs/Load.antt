@@ -13,7 +13,7 @@ use Rattle.chain.specs.Sound.{Sound}
 use Rattle.chain.specs.declared.Chain.{Chain}
 use Rattle.sizing.specs.Nodes.{xOf, yOf, stretchOf, y-pos, y-multiple, y-stretch}
 
--- in m ticks: the "sum over nodes 1..i of e×x×(m/y_node)"
+-- what 01 sums over all nodes and per cycle, over the nodes up to N_i and in m ticks: e×x×(m/y_node) for each
 unfoldable pub busyIn : Chain → ℕ → ℕ → ℕ
 unfolding xOf yOf
 busyIn c m zero = 0

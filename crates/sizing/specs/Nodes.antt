@@ -1,12 +1,13 @@
 -- The rates of a chain's nodes (01, Rates, load, minimum), node by node from the source on.
 --   xOf c i, yOf c i         N_i fires x times in y ticks
 --   stretchOf c i            how many times y_i the next y is
---   x-pos, y-pos             neither is 0
+--   source-rate              the source fires once in a period
+--   x-pos, y-pos, grows      neither is 0, nor is the stretch
 --   y-stretch                y_(i+1) is a multiple of y_i, namely this many times
 --   y-multiple               each y is a multiple of every y before it; y-source: and so of the period
 --   tokens-balance           what N_(i+1) takes out per tick is what N_i puts in
 --   cycle-least              in no smaller multiple of y_i is that a whole number of firings
-use mathlib.Core.Path.{_≡_, ap}
+use mathlib.Core.Path.{_≡_, refl, ap}
 use Prim.Native.Nat.{ℕ, zero, suc, _*_, _≤_, _<_, _∣_}
 use native.Mathlib.Nat.{mul-pos, dvd-refl, dvd-trans, dvd-mul-left, eq-or-lt-of-le}
 use mathlib.Core.Logic.{⊎-elim}
@@ -31,6 +32,10 @@ yOf c (suc i) = nextY (rowOf c i .produce) (rowOf c i .consume) (xOf c i) (yOf c
 -- how many times y_i the next y is
 abbrev pub stretchOf : Chain → ℕ → ℕ
 stretchOf c i = stretch (rowOf c i .produce) (rowOf c i .consume) (xOf c i)
+
+pub source-rate : (c : Chain) → (xOf c 0 ≡ 1) × (yOf c 0 ≡ c .period)
+unfolding xOf yOf
+source-rate c = (refl, refl)
 
 module _ (c : Chain) (s : Sound c) where
   -- the numbers of a queue are not 0

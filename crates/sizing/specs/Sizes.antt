@@ -2,6 +2,8 @@
 --   start q                  what a queue holds at a fresh start: nothing
 --   minimumOf q, namingOf q  its minimum b, and its naming count
 --   capacityOf q, marginOf q the capacity in force, and how much that is above the minimum
+--   margin-unwritten, -written
+--                            the margin where the file says 0, and where it says a capacity
 --   rowBy q, Parted, row-known
 --                            the numbers that the queue's code is handed
 --   sizeBy q x y             one queue's line of the analysis, its consumer having the rate x in y
@@ -10,8 +12,12 @@
 --   analysisOf c             the whole
 --   sized r c                the answer of a call that makes an analysis: the refusal r, or the analysis where r is silent
 --   refusedWith N L          the answer that is all zero but for number and place, as each refused one is (sized-refused)
+--   sized-fine               an answer that is not refused
 --   size-at                  what the analysis says of queue i
-use mathlib.Core.Path.{_≡_, refl}
+--   minimum-, naming-, capacity-most
+--                            how large the numbers of a sound queue's line can be
+use mathlib.Core.Path.{_≡_, refl, ap}
+use mathlib.Core.Logic.{_≢_}
 use mathlib.Core.Bool.{cond}
 use Prim.Native.Nat.{ℕ, suc, _/_, _<_, _≤_}
 use native.Mathlib.Nat.{le-trans}
@@ -30,7 +36,7 @@ use Rattle.chain.specs.declared.Chain.{Chain}
 use Rattle.arith.specs.Gcd.{gcd}
 use Rattle.onequeue.specs.Known.{Known}
 use Rattle.onequeue.specs.Minimum.{minimum, naming, minimum-fits, naming-fits}
-use Rattle.onequeue.specs.Capacity.{capacity, margin, capacity-fits}
+use Rattle.onequeue.specs.Capacity.{capacity, margin, capacity-fits, capacity-written, margin-zero}
 use Rattle.onequeue.specs.declared.Row.{Row}
 use Rattle.sizing.specs.Nodes.{xOf, yOf}
 use Rattle.sizing.specs.Load.{busyIn, busyOf, cycleOf}
@@ -49,13 +55,19 @@ minimumOf q = minimum (start q) (q .produce) (q .threshold) (q .consume)
 abbrev pub namingOf : Queue → ℕ
 namingOf q = naming (start q) (q .produce) (q .threshold) (q .consume)
 
--- "with B=0 the capacity is b"
+-- "with B=0 the capacity is b", else B
 abbrev pub capacityOf : Queue → ℕ
 capacityOf q = capacity (q .capacity) (minimumOf q)
 
--- "margin: B − b, signed; with B=0 the margin is 0"
+-- "margin: B − b, signed; with B=0 the capacity is b and the margin 0"
 abbrev pub marginOf : Queue → ℤ
 marginOf q = margin (capacityOf q) (minimumOf q)
+
+pub margin-unwritten : (q : Queue) → q .capacity ≡ 0 → marginOf q ≡ pos 0
+margin-unwritten q e = rw e (margin-zero (minimumOf q))
+
+pub margin-written : (q : Queue) → q .capacity ≢ 0 → marginOf q ≡ margin (q .capacity) (minimumOf q)
+margin-written q n = ap (λ (k : ℕ). margin k (minimumOf q)) (capacity-written (q .capacity) (minimumOf q) n)
 
 -- the numbers that the queue's code is handed: with the gcd of produce and consume, and what it leaves of consume
 unfoldable pub rowBy : Queue → Row

@@ -167,7 +167,7 @@ fn parted(q: Queue) -> Row
     requires { ⌜ SoundRow q ⌝ }
     ensures { λ r. ⌜ r ≡ rowBy q ⌝ }
 {
-    let g = arith::gcd(q.produce as u64, q.consume as u64) as u32;
+    let g = arith::gcd(q.produce, q.consume);
     Row {
         produce: q.produce,
         threshold: q.threshold,
