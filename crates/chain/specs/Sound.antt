@@ -2,6 +2,7 @@
 --   rowRange q at, nodeRange e at   4 of one queue row and of one node row
 --   range-parts                     4 part by part: the period, the queue rows one by one, the node rows one by one
 --   SoundRow q, Sound c             a row, and a chain, in range and in order
+--   row-sound                       4 and 5 of a row are silent, wherever it stands, exactly when the row is sound
 --   sound-is                        2, 4 and 5 are silent, the tables standing anywhere, exactly when the chain is sound
 --   sound, sound-known              a record is not refused exactly when it is sound
 use mathlib.Core.Path.{_≡_, ap, ap₂, _∙_}
@@ -58,7 +59,8 @@ pub record Sound (c : Chain) : Type 0 where
   pub rows : (i : ℕ) → i < c .n → SoundRow (rowOf c i)
   pub work : (i : ℕ) → i < c .n → In 1 1000000 (workOf c i)
 
-row-sound : (q : Queue) (at : ℕ) → (Silent (rowRange q at) × Silent (overdrawn q at)) ↔ SoundRow q
+-- a queue row passes 4 and 5, wherever it stands, exactly when it is sound
+pub row-sound : (q : Queue) (at : ℕ) → (Silent (rowRange q at) × Silent (overdrawn q at)) ↔ SoundRow q
 unfolding rowRange rowFields Silents
 row-sound q at = (out, back)
   where

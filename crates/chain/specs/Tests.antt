@@ -1,15 +1,15 @@
 -- Tests on numbers, and the facts that they decide.
 --   outside least most v     v is below the least or above the most
 --   Out, In                  the two facts: out of the range, in it
---   outside-, below-, differ-, or-, and-true and -false
+--   outside-, below-, upto-, equal-, differ-, or-, and-true and -false
 --                            the test holds, or fails, exactly under the fact named beside it
 --   sum-iff                  facts that hold exactly under others, of which one holds
 use mathlib.Core.Path.{_≡_, refl, sym}
 use mathlib.Core.Bool.{Bool, true, false, _||_, _&&_, not, true≢false}
 use mathlib.Core.Logic.{_↔_, _≢_, _⊎_, inl, inr, ⊎-elim}
 use Prim.Native.Nat.{ℕ, _≤_, _<_}
-use lib.Dec.{ltb, eqb}
-use borrow.Author.Tests.{lt-ltb, le-ltb, ltb-true, ltb-false, eq-eqb, ne-eqb, eqb-true, eqb-false, not-true, not-false}
+use lib.Dec.{ltb, leb, eqb}
+use borrow.Author.Tests.{lt-ltb, le-ltb, le-leb, ltb-true, ltb-false, leb-true, eq-eqb, ne-eqb, eqb-true, eqb-false, not-true, not-false}
 
 -- v is below the least or above the most
 abbrev pub outside : ℕ → ℕ → ℕ → Bool
@@ -40,6 +40,12 @@ differ-true a b = (λ e. eqb-false a b (not-true _ e), λ n. simp (ne-eqb a b n)
 
 pub differ-false : (a b : ℕ) → (not (eqb a b) ≡ false) ↔ (a ≡ b)
 differ-false a b = (λ e. eqb-true a b (not-false _ e), λ n. simp (eq-eqb a b n))
+
+pub equal-true : (a b : ℕ) → (eqb a b ≡ true) ↔ (a ≡ b)
+equal-true a b = (λ e. eqb-true a b e, λ n. eq-eqb a b n)
+
+pub upto-true : (a b : ℕ) → (leb a b ≡ true) ↔ (a ≤ b)
+upto-true a b = (λ e. leb-true a b e, λ l. le-leb a b l)
 
 pub below-true : (a b : ℕ) → (ltb a b ≡ true) ↔ (a < b)
 below-true a b = (λ e. ltb-true a b e, λ l. lt-ltb a b l)

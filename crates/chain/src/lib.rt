@@ -10,6 +10,7 @@ pub use checks::Faults;
 pub use checks::NO_FAULTS;
 pub use checks::check_chain;
 pub use checks::count_check;
+pub use checks::is_fine;
 pub use checks::settle;
 pub use checks::test;
 pub use checks::with_row;

@@ -100,7 +100,9 @@ fn load(file: &[u8]) -> ChainAnswer
     while i < n {
         let row = words::row_of(file, at as usize);
         let e = words::word_of(file, to as usize);
-        faults = chain::with_row(faults, row, at, e, to);
+        if !chain::is_fine(row, e) {
+            faults = chain::with_row(faults, row, at, e, to);
+        }
         chain.queues[i] = row;
         chain.work[i] = e;
         i += 1;

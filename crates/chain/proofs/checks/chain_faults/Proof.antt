@@ -1,8 +1,10 @@
 -- `chain::checks::chain_faults` meets its contract: before row i, the faults are those of the rows before it.
+use mathlib.Core.Path.{_∙_}
+use mathlib.Core.Logic.{⊎-elim}
 use Prim.Native.Nat.{_+_, _*_, _-_}
 use borrow.Author.Needs.{needs}
 use Rattle.chain.specs.Record.{rowOf, workOf}
-use Rattle.chain.proofs.Gather.{Gathered, gather-none, gather-more, gather-end}
+use Rattle.chain.proofs.Gather.{Gathered, gather-none, gather-more, gather-fine, gather-end}
 use Rattle.chain.proofs.checks.chain_faults.Statement.{statement}
 use Rattle.chain.proofs.checks.chain_faults.Tie as tie
 
@@ -36,6 +38,9 @@ mul-e c = search needs
 element-copy-out-e : tie.Need-element-copy-out-e Inv-loop μ-loop
 element-copy-out-e c = search needs
 
+is-fine-requires : tie.Need-is-fine-requires Inv-loop μ-loop
+is-fine-requires c κs = search needs
+
 with-row-requires : tie.Need-with-row-requires Inv-loop μ-loop
 with-row-requires c κs = search needs
 
@@ -52,7 +57,13 @@ loop-less : tie.Need-loop-less Inv-loop μ-loop
 loop-less c = search needs
 
 loop-again : tie.Need-loop-again Inv-loop μ-loop
-loop-again c = gather-more _ _ _ _ _ (c .before .before .before .before .loop .inv) (c .before .before .before .loop-test .taken) (c .with-row .ensures)
+loop-again c =
+    let l = c .before .before .before .before .before in
+    let step = gather-more _ _ _ _ _ (l .loop .inv) (c .before .before .before .before .loop-test .taken) in
+    ⊎-elim
+    (λ w. step (w .2 ∙ w .1 .ensures))
+    (λ w. step (gather-fine _ _ _ _ _ _ (workOf (l .before .args .t1) (l .loop .i)) (l .loop .inv) (c .before .is-fine .ensures) (w .0 .left) (w .1)))
+    (c .if1 .came)
 
 returns : tie.Need-returns Inv-loop μ-loop
 returns c = gather-end _ _ _ _ _ (c .before .loop .inv) (c .loop-test .left)
@@ -71,6 +82,7 @@ chain-faults-spec =
     element-copy-out-row
     mul-e
     element-copy-out-e
+    is-fine-requires
     with-row-requires
     add-i
     add-at

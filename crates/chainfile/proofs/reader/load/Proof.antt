@@ -1,7 +1,10 @@
 -- `chainfile::reader::load` meets its contract: before row i is read, the slots before it are filled and their faults kept.
+use mathlib.Core.Path.{_∙_}
+use mathlib.Core.Logic.{⊎-elim}
 use Prim.Native.Nat.{_-_}
 use native.Mathlib.Omega.{arith}
 use borrow.Author.Needs.{needs}
+use Rattle.chain.proofs.Gather.{gather-fine}
 use Rattle.chainfile.proofs.Reading.{Loading, load-none, load-more, load-end, load-answer}
 use Rattle.chainfile.proofs.reader.load.Statement.{statement}
 use Rattle.chainfile.proofs.reader.load.Tie as tie
@@ -42,9 +45,12 @@ cast-word-of c = search needs
 word-of-requires-5 : tie.Need-word-of-requires-5 Inv-loop μ-loop
 word-of-requires-5 c κs = search needs
 
+is-fine-requires : tie.Need-is-fine-requires Inv-loop μ-loop
+is-fine-requires c κs = search needs
+
 with-row-requires : tie.Need-with-row-requires Inv-loop μ-loop
 with-row-requires c κs =
-    let l = c .before .before .before in
+    let l = c .before .before .before .before .before in
     let a = l .before .before .before .before .before .before in
     record { ends = omega (arith, a .pre .queues, a .pre .long, l .loop .inv .gathered .queue, l .before .before .before .before .word-of .ensures, l .before .before .word-of3 .ensures) }
 
@@ -53,7 +59,7 @@ mul-row c = search needs
 
 element-set-from-row : tie.Need-element-set-from-row Inv-loop μ-loop
 element-set-from-row c =
-    let l = c .before .before .before .before in
+    let l = c .before .before .before .before .before in
     omega (arith, l .before .before .before .before .before .before .pre .count, l .before .before .before .before .word-of .ensures)
 
 mul-chain : tie.Need-mul-chain Inv-loop μ-loop
@@ -61,7 +67,7 @@ mul-chain c = search needs
 
 element-write-chain : tie.Need-element-write-chain Inv-loop μ-loop
 element-write-chain c =
-    let l = c .before .before .before .before in
+    let l = c .before .before .before .before .before in
     omega (arith, l .before .before .before .before .before .before .pre .count, l .before .before .before .before .word-of .ensures)
 
 add-i : tie.Need-add-i Inv-loop μ-loop
@@ -69,13 +75,13 @@ add-i c = search needs
 
 add-at : tie.Need-add-at Inv-loop μ-loop
 add-at c =
-    let l = c .before .before .before .before in
+    let l = c .before .before .before .before .before in
     let a = l .before .before .before .before .before .before in
     omega (arith, a .pre .queues, a .pre .long, l .loop .inv .gathered .queue, l .before .before .before .before .word-of .ensures, l .before .before .word-of3 .ensures)
 
 add-to : tie.Need-add-to Inv-loop μ-loop
 add-to c =
-    let l = c .before .before .before .before in
+    let l = c .before .before .before .before .before in
     let a = l .before .before .before .before .before .before in
     omega (arith, a .pre .nodes, a .pre .long, l .loop .inv .gathered .node, l .before .before .before .before .word-of .ensures, l .before .word-of4 .ensures)
 
@@ -84,9 +90,13 @@ loop-less c = search needs
 
 loop-again : tie.Need-loop-again Inv-loop μ-loop
 loop-again c =
-    let l = c .before .before .before .before in
-    load-more _ _ _ _ _ (l .loop .inv) (omega (arith, l .before .before .before .before .before .before .pre .count, l .before .before .before .before .word-of .ensures)) (c .before .before .before .loop-test .taken)
-    (c .before .before .row-of .ensures) (c .before .word-of5 .ensures) (c .with-row .ensures)
+    let word = c .before .before in
+    let l = word .before .before .before in
+    let step = load-more _ _ _ _ _ (l .loop .inv) (omega (arith, l .before .before .before .before .before .before .pre .count, l .before .before .before .before .word-of .ensures)) (word .before .before .loop-test .taken) (word .before .row-of .ensures) (word .word-of5 .ensures) in
+    ⊎-elim
+    (λ w. step (w .2 ∙ w .1 .ensures))
+    (λ w. step (gather-fine _ _ _ _ _ _ (word .word-of5 .result) (l .loop .inv .gathered) (c .before .is-fine .ensures) (w .0 .left) (w .1)))
+    (c .if1 .came)
 
 settle-requires : tie.Need-settle-requires Inv-loop μ-loop
 settle-requires c κs = search needs
@@ -122,6 +132,7 @@ load-spec =
     row-of-requires
     cast-word-of
     word-of-requires-5
+    is-fine-requires
     with-row-requires
     mul-row
     element-set-from-row
