@@ -14,4 +14,4 @@ pub use Rattle.reporttext.specs.Short.{report-short}
 pub use Rattle.report.specs.Checks.{reportText, reportChecks, report-1, report-2, report-3, report-4, report-5, report-6, report-7, report-10}
 unfoldable pub use Rattle.report.specs.Checks.{reportRefusal}
 pub use Rattle.report.specs.Accepted.{report-accepts, report-written}
-pub use Rattle.report.specs.Room.{report-room, refusal-room}
+pub use Rattle.report.specs.Room.{fileRefusal, report-room, report-roomy, refusal-room}

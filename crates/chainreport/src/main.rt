@@ -2,18 +2,27 @@
 // It only reads, calls and writes; one byte more than the longest file shows that a file is too long.
 ghost use Prim.Native.Nat.{_≤_};
 ghost use lib.ListN.{length};
+ghost use Rattle.chainreport.specs.Printed.{printed, Front};
 
 fn main() {
     let mut file = [0u8; 4097];
     let n = io::read_full(0, &mut file);
     let mut text = [0u8; 1133];
-    let answer = ardenquill::report(&file[..n], &mut text);
-    if answer.number != 0 {
-        let line = ardenquill::refusal_line(answer.number, answer.place, &mut text);
-        print_front(&text, line.length as usize);
-        return;
+    let end = answer(&file[..n], &mut text);
+    print_front(&text, end);
+}
+
+// Makes what is to be printed of a file at the front of `text`, and answers its length.
+fn answer(file: &[u8], text: &mut [u8]) -> usize
+    requires { ⌜ 1133 ≤ length (now text) ⌝ }
+    ensures { λ r. ⌜ Front (printed (now (file .entry))) (now (text .exit)) r × (r ≤ length (now (text .exit))) ⌝ }
+{
+    let report = ardenquill::report(file, text);
+    if report.number != 0 {
+        let line = ardenquill::refusal_line(report.number, report.place, text);
+        return line.length as usize;
     }
-    print_front(&text, answer.length as usize);
+    report.length as usize
 }
 
 // Prints the first n bytes of a text.
