@@ -3,7 +3,7 @@
 --   Front t p n      the first n of the bytes p are the text t
 --   prints-refusal, prints-report
 --                    how the library's calls, with room for the longest report, leave it at the front of what is lent to them
-use mathlib.Core.Path.{_≡_, refl, sym, ap, ap₂, _∙_}
+use mathlib.Core.Path.{_≡_, sym, ap, _∙_}
 use mathlib.Core.Bool.{cond}
 use mathlib.Core.List.{List, _++_}
 use Prim.Native.Nat.{ℕ, _^_, _≤_, _<_}
@@ -12,7 +12,6 @@ use lib.Dec.{eqb}
 use lib.ListN.{length, take, drop}
 use lib.Seq.{take-at}
 use borrow.Author.Tests.{eq-eqb, ne-eqb}
-use Rattle.ardenquill.specs.Chains.{Silent}
 use Rattle.ardenquill.specs.Files.{Output, output-fine, roomCheck}
 use Rattle.ardenquill.specs.Reports.{reportText, reportRefusal, refusalText, fileRefusal, report-written, report-roomy, refusal-room}
 use Rattle.chain.specs.declared.Refusal.{Refusal}

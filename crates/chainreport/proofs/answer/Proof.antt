@@ -1,6 +1,5 @@
 -- `chainreport::answer` meets its contract: with room for the longest report the library's calls leave what is to be printed.
 use Prim.Native.Nat.{_<_, _^_}
-use native.Mathlib.Omega.{arith}
 use borrow.Author.Needs.{needs}
 use Rattle.ardenquill.specs.Files.{output-within}
 use Rattle.chainreport.specs.Printed.{prints-refusal, prints-report}
