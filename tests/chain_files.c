@@ -1,5 +1,5 @@
-/* Checks that the chain files of a directory are the factory chains, byte for byte and by their analysis, or writes
- * them there:
+/* Checks that the chain files of a directory are the factory chains, byte for byte, and are analysed with the paper's
+ * figures, or writes them there:
  *     chain_files DIR
  *     chain_files --write DIR */
 #include <stdio.h>
@@ -10,6 +10,14 @@
 /* The files by the number of their factory chain. */
 static const char *const names[] = {"feed.chain", "permeate.chain", "flush.chain"};
 #define FILES (sizeof names / sizeof names[0])
+
+/* The figures of each factory chain: n, then x, y, minimum, naming count, capacity and margin of each queue, then busy
+ * and cycle. */
+static const struct ardenquill_analysis figures[FILES] = {
+    {1, {{4, 30, 10, 4, 10, 0}}, 8, 30},
+    {2, {{4, 15, 10, 4, 10, 0}, {6, 15, 6, 3, 6, 0}}, 10, 15},
+    {2, {{1, 100, 64, 4, 64, 0}, {1, 800, 8, 8, 8, 0}}, 43, 800},
+};
 
 /* Opens a file of the directory. Null if it can't be opened. */
 static FILE *open_in(const char *directory, const char *name, const char *mode)
@@ -30,23 +38,22 @@ static size_t make(uint32_t number, uint8_t *bytes, size_t room)
     return (size_t)ardenquill_write(made.chain, bytes, room).length;
 }
 
-/* Null if the analysis of a file's chain is that of the factory chain, else what is wrong. No struct of the two
- * answers has gaps between its fields. */
+/* Null if the analysis of a file's chain has the figures of the factory chain, else what is wrong. An analysis has no
+ * gaps between its fields. */
 static const char *check_analysis(uint32_t number, const uint8_t *file, size_t length)
 {
     struct ardenquill_chain_answer read = ardenquill_read(file, length);
     if (read.number != 0)
         return "is refused by the reader";
     struct ardenquill_analysis_answer found = ardenquill_analyse(read.chain);
-    struct ardenquill_analysis_answer due = ardenquill_analyse(ardenquill_factory(number).chain);
     if (found.number != 0)
         return "is refused by the analysis";
-    if (memcmp(&found, &due, sizeof found) != 0)
-        return "is analysed in another way than the factory chain";
+    if (memcmp(&found.analysis, &figures[number], sizeof found.analysis) != 0)
+        return "is analysed with other figures than the paper's";
     return NULL;
 }
 
-/* Null if the file of a factory chain has exactly these bytes and is analysed as that chain is, else what is wrong. */
+/* Null if the file of a factory chain has exactly these bytes and is analysed with its figures, else what is wrong. */
 static const char *check_file(uint32_t number, const char *directory, const uint8_t *bytes, size_t length)
 {
     uint8_t found[ARDENQUILL_MAX_FILE_LENGTH];
