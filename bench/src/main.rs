@@ -7,14 +7,13 @@ use compare::chains::valid;
 use compare::loaded::accepted;
 use compare::packed::packed_file;
 use compare::random::Random;
+use compare::MAX_REPORT_LENGTH;
 use library::{ardenquill_analyse, ardenquill_read, ardenquill_report, ardenquill_write};
 use std::fmt::Debug;
 use std::hint::black_box;
 use std::slice;
 use std::time::Instant;
-use yardstick::{
-    packed_length, AnalysisAnswer, Chain, ChainAnswer, LengthAnswer, LONGEST_REPORT, MAX_QUEUES,
-};
+use yardstick::{packed_length, AnalysisAnswer, Chain, ChainAnswer, LengthAnswer, MAX_QUEUES};
 
 /// The different inputs of one line, called one after the other in a ring.
 const INPUTS: usize = 64;
@@ -106,6 +105,12 @@ fn refused_first(mut files: Vec<Vec<u8>>) -> Vec<Vec<u8>> {
     files
 }
 
+/// The bytes of the report on each file.
+fn report_lengths(files: &[Vec<u8>]) -> Vec<usize> {
+    let length = |file: &Vec<u8>| yardstick::report(file, &mut [0; MAX_REPORT_LENGTH]).length;
+    files.iter().map(|file| length(file) as usize).collect()
+}
+
 /// The answer that library and yardstick both give.
 fn same<T: PartialEq + Debug>(library: T, yardstick: T) -> T {
     assert_eq!(library, yardstick, "library and yardstick differ");
@@ -172,11 +177,12 @@ fn analyse_line(name: &str, chains: &[Chain]) {
     });
 }
 
-/// Prints the line of reporting on some files to enough room, each of which must be accepted.
-fn report_line(name: &str, files: &[Vec<u8>]) {
-    let mut texts = [[0; LONGEST_REPORT]; 2];
-    for file in files {
-        let [ours, theirs] = &mut texts;
+/// Prints the line of reporting on some files, each of which must be accepted, with enough room for
+/// each.
+fn report_line(name: &str, files: &[Vec<u8>], rooms: &[usize]) {
+    let mut texts = [[0; MAX_REPORT_LENGTH]; 2];
+    for (file, &room) in files.iter().zip(rooms) {
+        let [ours, theirs] = texts.each_mut().map(|text| &mut text[..room]);
         let answer = same(library::report(file, ours), yardstick::report(file, theirs));
         due(answer.number, 0);
         let length = answer.length as usize;
@@ -185,8 +191,8 @@ fn report_line(name: &str, files: &[Vec<u8>]) {
     let [out, _] = &mut texts;
     let calls = [ardenquill_report as Report, yardstick_report];
     line("report", name, |side| {
-        for file in files {
-            let (file, out) = (black_box(file.as_slice()), black_box(out.as_mut_slice()));
+        for (file, &room) in files.iter().zip(rooms) {
+            let (file, out) = (black_box(file.as_slice()), black_box(&mut out[..room]));
             let (lent, room) = (out.as_mut_ptr(), out.len());
             // SAFETY: pointers and lengths are those of two slices, of which the call only reads
             // the first and is lent the second.
@@ -254,7 +260,11 @@ fn main() {
     for chains in &sized {
         analyse_line(&format!("n = {}", chains[0].n), chains);
     }
-    for chains in &sized {
-        report_line(&format!("n = {}", chains[0].n), &files(chains));
+    let sized_files = sized.each_ref().map(|chains| files(chains));
+    for (chains, files) in sized.iter().zip(&sized_files) {
+        let name = format!("n = {}", chains[0].n);
+        report_line(&name, files, &[MAX_REPORT_LENGTH; INPUTS]);
     }
+    let [.., largest] = &sized_files;
+    report_line("n = 16, exact room", largest, &report_lengths(largest));
 }

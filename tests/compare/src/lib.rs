@@ -1,5 +1,5 @@
-//! What the comparison and the bench share: random numbers, random chains, exact rates, and the
-//! packed file of a chain.
+//! What the comparison and the bench share: random numbers, random chains, exact rates, the packed
+//! file of a chain, and the room for a report.
 
 pub mod chains;
 pub mod loaded;
@@ -7,3 +7,7 @@ pub mod packed;
 pub mod random;
 pub mod rates;
 pub mod steered;
+
+/// The header's room that every report fits, 34 bytes for the first line, 67 for each of 16 queues
+/// and 27 for the last line: the library writes straight to so much, and copies to less.
+pub const MAX_REPORT_LENGTH: usize = 34 + 67 * 16 + 27;
