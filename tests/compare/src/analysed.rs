@@ -5,17 +5,19 @@ use crate::files;
 use crate::records::{littered, place_fault};
 use compare::chains::{valid, within};
 use compare::loaded::{accepted, load, load_any, lone, slow};
+use compare::packed::packed_file;
 use compare::random::Random;
 use compare::rates::{rates, turns, Rate};
-use compare::steered::{at_edge, past, uneven, walk, Side, EDGES, FIRST_LARGE_X, Y_EDGES};
-use yardstick::{factory, report, Chain, LONGEST_REPORT, MAX_QUEUES, TICKS};
+use compare::steered::{at_edge, past, uneven, walk, widest, Side, EDGES, FIRST_LARGE_X, Y_EDGES};
+use compare::MAX_REPORT_LENGTH;
+use yardstick::{factory, report, Chain, MAX_QUEUES, TICKS};
 
 /// The chains of each kind at each edge and past it, for every n and node.
 const REPEATS: usize = 8;
 
 /// The fewest queues with which the busy ticks of a cycle may pass 64 bits: with two, N_1 fires at
 /// most 65,535 x 65,535 times in a cycle, N_2 as often, and each time for 1,000,000 ticks. With
-/// three, N_2 may fire 65,535 x 65,535 times in each of 65,521 ticks.
+/// three, N_2 may fire 65,535 x 65,535 times a tick while the cycle has 65,521 ticks.
 const FIRST_WIDE: usize = 3;
 
 /// A file and the bytes that are lent for the report on it.
@@ -114,8 +116,15 @@ fn within_limit(random: &mut Random, n: usize) -> Chain {
     chain
 }
 
-/// The factory chains, chains at every edge of the limit and past it at every node, and chains one
-/// of whose nodes alone is busy for more than 64 bits hold.
+/// An accepted chain of n queues, at least 3, whose sink has the widest x and y.
+fn accepted_widest(random: &mut Random, n: usize) -> Chain {
+    let mut chain = widest(random, n);
+    load(random, &mut chain, |cycle| 0..=cycle);
+    chain
+}
+
+/// The factory chains, chains at every edge of the limit and past it at every node, accepted chains
+/// with the widest x, and chains one of whose nodes alone is busy for more than 64 bits hold.
 pub fn limits(random: &mut Random) -> Vec<Chain> {
     let mut chains: Vec<Chain> = (0..3).map(|number| factory(number).chain).collect();
     for n in 1..=MAX_QUEUES {
@@ -124,6 +133,9 @@ pub fn limits(random: &mut Random) -> Vec<Chain> {
                 chains.push(on_edge(random, n, node));
                 chains.push(far_past(random, n, node));
             }
+        }
+        if n >= FIRST_LARGE_X {
+            chains.extend((0..REPEATS).map(|_| accepted_widest(random, n)));
         }
         if n >= FIRST_WIDE {
             chains.extend((0..REPEATS).map(|_| lone(random, n)));
@@ -145,38 +157,56 @@ pub fn any_request(random: &mut Random, n: usize) -> Request {
     Request { file, room }
 }
 
-/// The bytes of the report on a file; 0 if there is none.
-fn needed(file: &[u8]) -> usize {
-    report(file, &mut [0; LONGEST_REPORT]).length as usize
-}
-
-/// Random room, more often than not close to what is needed.
-fn any_room(random: &mut Random, needed: usize) -> usize {
-    match random.below(8) {
-        0 | 1 => needed,
-        2 | 3 => needed.saturating_sub(1),
-        4 => 0,
-        5 => needed + random.below(64),
-        _ => random.below(LONGEST_REPORT),
+/// The packed file of a chain with enough room.
+pub fn packed_request(random: &mut Random, chain: &Chain) -> Request {
+    Request {
+        file: packed_file(chain),
+        room: enough_room(random),
     }
 }
 
-/// Every room from none to more than enough, for every n; and the files at the limits with enough
-/// room.
+/// The bytes of the report on a file; 0 if there is none.
+fn needed(file: &[u8]) -> usize {
+    report(file, &mut [0; MAX_REPORT_LENGTH]).length as usize
+}
+
+/// Random room, more often than not close to what is needed or enough for every report.
+fn any_room(random: &mut Random, needed: usize) -> usize {
+    match random.below(8) {
+        0 | 1 => needed,
+        2 => needed.saturating_sub(1),
+        3 => 0,
+        4 => needed + random.below(64),
+        5 => random.below(MAX_REPORT_LENGTH),
+        _ => enough_room(random),
+    }
+}
+
+/// Room that every report fits: the header's, which no report fills, a byte less, or more.
+fn enough_room(random: &mut Random) -> usize {
+    match random.below(8) {
+        0 | 1 => MAX_REPORT_LENGTH - 1,
+        2 | 3 => MAX_REPORT_LENGTH,
+        4 | 5 => MAX_REPORT_LENGTH + 1,
+        _ => MAX_REPORT_LENGTH + random.below(512),
+    }
+}
+
+/// Every room from none to more than the header's, for every n, and far more; and the files at the
+/// limits with enough room.
 pub fn request_limits(random: &mut Random) -> Vec<Request> {
     let mut requests = Vec::new();
     for n in 1..=MAX_QUEUES {
         let chain = accepted(random, n);
         let file = files::of(random, &chain);
-        for room in 0..=needed(&file) + 16 {
+        for room in (0..=MAX_REPORT_LENGTH + 16).chain([4_096, 65_536]) {
             let file = file.clone();
             requests.push(Request { file, room });
         }
     }
-    let enough = |file| Request {
-        file,
-        room: LONGEST_REPORT,
-    };
-    requests.extend(files::limits(random).into_iter().map(enough));
+    for file in files::limits(random) {
+        let room = enough_room(random);
+        requests.push(Request { file, room });
+    }
     requests
 }

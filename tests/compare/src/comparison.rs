@@ -140,7 +140,7 @@ pub fn report(
     let mut due = lent.clone();
     let answer = library.report(&mut file, &mut lent)?;
     let due_answer = yardstick::report(&request.file, due.bytes_mut());
-    seen.count(request.room, &due_answer);
+    seen.count(&request.file, due.bytes(), &due_answer);
     same_answer("the answer", &answer, &due_answer)?;
     same_bytes("the memory lent and around it", &lent.memory, &due.memory)?;
     same_bytes(

@@ -31,8 +31,8 @@ use yardstick::{packed_length, Chain, MAX_QUEUES};
 /// The seed of a run that is given none.
 const SEED: u64 = 1;
 
-/// The random files, records and factory numbers of a run, the chains that are analysed and the
-/// files that are reported on.
+/// The random files, records and factory numbers of a run, the chains that are analysed and
+/// reported on, and the files that are reported on with any room.
 const FILES: usize = 300_000;
 const RECORDS: usize = 250_000;
 const FACTORY_NUMBERS: usize = 20_000;
@@ -41,6 +41,9 @@ const REPORTS: usize = 160_000;
 
 /// The fewest inputs that make a run.
 const FEWEST: u64 = 1_000_000;
+
+/// The fewest chains of a run that pass checks 2, 4 and 5 and are both analysed and reported on.
+const FEWEST_CHAINS: u64 = 200_000;
 
 /// The most differences that are shown.
 const SHOWN: u64 = 5;
@@ -168,28 +171,30 @@ impl Run {
         self.settle(result, || format!("factory: {number:08x}"))
     }
 
-    /// Compares the analysis on chains.
+    /// Compares the analysis on chains, and the report on their packed files.
     fn compare_analyses(&mut self) -> Result<(), Lost> {
         for chain in analysed::limits(&mut self.random) {
-            self.compare_analysis(&chain)?;
+            self.compare_chain(&chain)?;
         }
         for record in records::limits(&mut self.random) {
-            self.compare_analysis(&record.chain)?;
+            self.compare_chain(&record.chain)?;
         }
         for i in 0..ANALYSES {
             let chain = analysed::any(&mut self.random, 1 + i % MAX_QUEUES);
-            self.compare_analysis(&chain)?;
+            self.compare_chain(&chain)?;
         }
         Ok(())
     }
 
-    /// Compares the analysis on one chain.
-    fn compare_analysis(&mut self, chain: &Chain) -> Result<(), Lost> {
+    /// Compares the analysis on one chain, and the report on its packed file with enough room.
+    fn compare_chain(&mut self, chain: &Chain) -> Result<(), Lost> {
         let result = comparison::analyse(&mut self.library, &mut self.analyses, chain);
-        self.settle(result, || format!("analyse: {}", decimal(chain.bytes())))
+        self.settle(result, || format!("analyse: {}", decimal(chain.bytes())))?;
+        let request = analysed::packed_request(&mut self.random, chain);
+        self.compare_report(&request)
     }
 
-    /// Compares the report on files.
+    /// Compares the report on files with any room.
     fn compare_reports(&mut self) -> Result<(), Lost> {
         for request in analysed::request_limits(&mut self.random) {
             self.compare_report(&request)?;
@@ -281,6 +286,10 @@ impl Run {
         }
         if inputs < FEWEST {
             println!("failed: fewer than {FEWEST} inputs");
+            self.failed += 1;
+        }
+        if self.analyses.valid() < FEWEST_CHAINS {
+            println!("failed: fewer than {FEWEST_CHAINS} chains analysed and reported on");
             self.failed += 1;
         }
     }

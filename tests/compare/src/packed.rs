@@ -1,10 +1,10 @@
 //! The packed file of a chain, put together as the paper says and by no call.
 
-use yardstick::{Chain, Queue};
+use yardstick::{Chain, Queue, MAX_QUEUES};
 
-/// The packed file of a chain whose n is valid.
+/// The packed file of a chain; one whose n is past the slots has the rows of all of them.
 pub fn packed_file(chain: &Chain) -> Vec<u8> {
-    let n = chain.n as usize;
+    let n = (chain.n as usize).min(MAX_QUEUES);
     let queues = chain.queues[..n].iter().flat_map(row_words);
     let nodes = chain.work[..n].iter().copied();
     packed(chain.n, chain.period, &bytes(queues), &bytes(nodes))
@@ -30,10 +30,12 @@ pub fn row_words(queue: &Queue) -> [u32; 5] {
     ]
 }
 
-/// The packed file of two tables: n, y, 20, 20+20n, 20+24n, the queue table's bytes, the node
-/// table's bytes.
+/// The packed file of two tables: n, y, 20, where the queue table ends, where the node table ends,
+/// the queue table's bytes, the node table's bytes.
 fn packed(n: u32, period: u32, queues: &[u8], nodes: &[u8]) -> Vec<u8> {
-    let header = [n, period, 20, 20 + 20 * n, 20 + 24 * n];
+    let queues_end = 20 + queues.len() as u32;
+    let nodes_end = queues_end + nodes.len() as u32;
+    let header = [n, period, 20, queues_end, nodes_end];
     [&bytes(header), queues, nodes].concat()
 }
 

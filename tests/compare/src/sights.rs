@@ -3,10 +3,14 @@
 use crate::tally::{Line, Tally};
 use compare::rates::{parts, rates, Rate, LIMIT};
 use compare::steered::{FIRST_LARGE_X, LAST_X};
-use yardstick::{AnalysisAnswer, Chain, LengthAnswer, QueueSize, MAX_QUEUES};
+use compare::MAX_REPORT_LENGTH;
+use yardstick::{analyse, read, AnalysisAnswer, Chain, LengthAnswer, QueueSize, MAX_QUEUES};
 
 /// What must be seen of rates that are not past their limit.
 const RATES: [&str; 2] = ["y is 4294967295", "x is 4294967292"];
+
+/// What must be seen of the rates of accepted chains; one with the largest x is overloaded.
+const ACCEPTED_RATES: [&str; 2] = ["y is 4294967295", "x has ten digits"];
 
 /// What must be seen of loads; a number is wide if it passes so many bits, and lost if the load
 /// were accepted with numbers cut to them.
@@ -25,37 +29,56 @@ const LOADS: [&str; 8] = [
 const MARGINS: [&str; 4] = ["< 0", "= 0", "= 0 as B is 0", "> 0"];
 
 /// The room that must be seen lent for a report.
-const ROOMS: [&str; 4] = ["none", "a byte short", "as needed", "more"];
+const ROOMS: [&str; 7] = [
+    "none",
+    "a byte short",
+    "as needed",
+    "more",
+    "1132",
+    "1133",
+    "1133 or more",
+];
 
-/// The numbers that the analysis answered with, and what the chains behind them are.
+/// What must be seen of the texts of reports.
+const TEXTS: [&str; 2] = ["whole", "with a minus sign"];
+
+/// What the chains are that a call answered with 0, 6 or 7.
 #[derive(Default)]
-pub struct Analyses {
-    numbers: Tally,
+struct Chains {
     accepted: Tally,
     past_x: Tally,
     past_y: Tally,
     rates: Tally<&'static str>,
+    accepted_rates: Tally<&'static str>,
     loads: Tally<&'static str>,
     margins: Tally<&'static str>,
 }
 
-impl Analyses {
-    /// Counts the answer that a chain must have.
-    pub fn count(&mut self, chain: &Chain, answer: &AnalysisAnswer) {
-        self.numbers.count(answer.number);
+impl Chains {
+    /// Counts a chain by the analysis that it must have.
+    fn count(&mut self, chain: &Chain, answer: &AnalysisAnswer) {
         match answer.number {
             0 => {
-                self.accepted.count(chain.n);
-                let n = chain.n as usize;
-                for (queue, size) in chain.queues[..n].iter().zip(&answer.analysis.queues) {
-                    self.margins.count(margin(queue.capacity, size));
-                }
+                self.count_accepted(chain, &answer.analysis.queues[..chain.n as usize]);
                 self.count_passing(chain);
             }
             6 => self.count_past(answer.place, &rates(chain)),
             7 => self.count_passing(chain),
             _ => {}
         }
+    }
+
+    /// Counts n, margins and rates of an accepted chain, given what the analysis says of its queues.
+    fn count_accepted(&mut self, chain: &Chain, sizes: &[QueueSize]) {
+        self.accepted.count(chain.n);
+        for (queue, size) in chain.queues.iter().zip(sizes) {
+            self.margins.count(margin(queue.capacity, size));
+        }
+        let rates = [
+            sizes.iter().any(|size| size.y == u32::MAX),
+            sizes.iter().any(|size| size.x >= 1_000_000_000),
+        ];
+        count_all(&mut self.accepted_rates, ACCEPTED_RATES, rates);
     }
 
     /// Counts why a chain is refused with 6 at a node: its rates end there.
@@ -96,50 +119,113 @@ impl Analyses {
         count_all(&mut self.loads, LOADS, loads);
     }
 
-    /// What was seen, and what was not though it must be.
-    pub fn lines(&self) -> Vec<Line> {
+    /// What was seen of a call's chains, and what was not though it must be.
+    fn lines(&self, call: &str) -> Vec<Line> {
         let every = 1..=MAX_QUEUES as u32;
         let large_x = FIRST_LARGE_X as u32..=MAX_QUEUES as u32;
+        let name = |kind: &str| format!("{call}, {kind}");
         vec![
-            self.numbers.line("analyse", [0, 2, 4, 5, 6, 7]),
             self.accepted
-                .line("analyse, n of those accepted", every.clone()),
-            self.past_x.line("analyse, 6 as x is past, node", large_x),
-            self.past_y.line("analyse, 6 as y is past, node", every),
-            self.rates.line("analyse, rates not past", RATES),
-            self.loads.line("analyse, loads", LOADS),
-            self.margins.line("analyse, margins", MARGINS),
+                .line(name("n of those accepted"), every.clone()),
+            self.past_x.line(name("6 as x is past, node"), large_x),
+            self.past_y.line(name("6 as y is past, node"), every),
+            self.rates.line(name("rates not past"), RATES),
+            self.accepted_rates
+                .line(name("rates of those accepted"), ACCEPTED_RATES),
+            self.loads.line(name("loads"), LOADS),
+            self.margins.line(name("margins"), MARGINS),
         ]
     }
 }
 
-/// The numbers that the report answered with, and the room that was lent for those not refused
-/// before 10.
+/// The numbers that the analysis answered with, and the chains behind them.
+#[derive(Default)]
+pub struct Analyses {
+    numbers: Tally,
+    chains: Chains,
+}
+
+impl Analyses {
+    /// Counts the answer that a chain must have.
+    pub fn count(&mut self, chain: &Chain, answer: &AnalysisAnswer) {
+        self.numbers.count(answer.number);
+        self.chains.count(chain, answer);
+    }
+
+    /// How many chains passed checks 2, 4 and 5.
+    pub fn valid(&self) -> u64 {
+        [0, 6, 7]
+            .map(|number| self.numbers.times(number))
+            .iter()
+            .sum()
+    }
+
+    /// What was seen, and what was not though it must be.
+    pub fn lines(&self) -> Vec<Line> {
+        let mut lines = vec![self.numbers.line("analyse", [0, 2, 4, 5, 6, 7])];
+        lines.extend(self.chains.lines("analyse"));
+        lines
+    }
+}
+
+/// The numbers that the report answered with, the chains behind those whose room was enough, the
+/// room that was lent for those not refused before 10, and the texts that were written.
 #[derive(Default)]
 pub struct Reports {
     numbers: Tally,
+    chains: Chains,
     rooms: Tally<&'static str>,
+    texts: Tally<&'static str>,
 }
 
 impl Reports {
-    /// Counts the answer that a file with that room must have.
-    pub fn count(&mut self, room: usize, answer: &LengthAnswer) {
+    /// Counts the answer that a file must have, given what was lent as it must be then.
+    pub fn count(&mut self, file: &[u8], out: &[u8], answer: &LengthAnswer) {
         self.numbers.count(answer.number);
-        let needed = match answer.number {
-            0 => answer.length as usize,
-            10 => answer.place as usize,
-            _ => return,
-        };
-        let rooms = [room == 0, room + 1 == needed, room == needed, room > needed];
+        match answer.number {
+            0 => {
+                self.count_room(out.len(), answer.length as usize);
+                self.count_text(&out[..answer.length as usize]);
+                self.count_chain(file);
+            }
+            6 | 7 => self.count_chain(file),
+            10 => self.count_room(out.len(), answer.place as usize),
+            _ => {}
+        }
+    }
+
+    /// Counts the chain of a file that the reader accepts.
+    fn count_chain(&mut self, file: &[u8]) {
+        let chain = read(file).chain;
+        self.chains.count(&chain, &analyse(&chain));
+    }
+
+    /// Counts the room that was lent for a text of so many bytes.
+    fn count_room(&mut self, room: usize, needed: usize) {
+        let rooms = [
+            room == 0,
+            room + 1 == needed,
+            room == needed,
+            room > needed,
+            room + 1 == MAX_REPORT_LENGTH,
+            room == MAX_REPORT_LENGTH,
+            room >= MAX_REPORT_LENGTH,
+        ];
         count_all(&mut self.rooms, ROOMS, rooms);
+    }
+
+    /// Counts a text that was written.
+    fn count_text(&mut self, text: &[u8]) {
+        count_all(&mut self.texts, TEXTS, [true, text.contains(&b'-')]);
     }
 
     /// What was seen, and what was not though it must be.
     pub fn lines(&self) -> Vec<Line> {
-        vec![
-            self.numbers.line("report", [0, 1, 2, 3, 4, 5, 6, 7, 10]),
-            self.rooms.line("report, room", ROOMS),
-        ]
+        let mut lines = vec![self.numbers.line("report", [0, 1, 2, 3, 4, 5, 6, 7, 10])];
+        lines.extend(self.chains.lines("report"));
+        lines.push(self.rooms.line("report, room", ROOMS));
+        lines.push(self.texts.line("report, texts", TEXTS));
+        lines
     }
 }
 

@@ -183,6 +183,22 @@ pub fn at_edge(random: &mut Random, n: usize, node: usize, edge: Edge) -> Chain 
     chain_of(random, period, &pairs)
 }
 
+/// A chain of n queues, at least 3, whose sink has an x of ten digits in as many ticks as the limit,
+/// and which is not overloaded if its execution times are 1.
+pub fn widest(random: &mut Random, n: usize) -> Chain {
+    let (period, factors) = factors(random, Edge::YLast);
+    let slower = spread(random, &factors, n - 2, 1);
+    let faster = [0, 0].map(|_| 32_000 + random.below(31_000) as u32);
+    let mut pairs = Vec::with_capacity(n);
+    pairs.extend(
+        slower
+            .into_iter()
+            .map(|growth| growing(random, Edge::YLast, growth)),
+    );
+    pairs.extend(faster.map(|growth| growing(random, Edge::XLast, growth)));
+    chain_of(random, period, &pairs)
+}
+
 /// A period and the factors by which the steered number of a rate grows to an edge.
 fn factors(random: &mut Random, edge: Edge) -> (u32, Vec<u32>) {
     match edge {

@@ -11,7 +11,7 @@ pub struct Tally<T = u32> {
 
 /// What was seen of one kind of things, and what was not though it must be.
 pub struct Line {
-    pub name: &'static str,
+    pub name: String,
     pub seen: String,
     pub missing: Vec<String>,
 }
@@ -31,13 +31,18 @@ impl<T: Ord + Display> Tally<T> {
         *self.seen.entry(thing).or_default() += 1;
     }
 
+    /// How often a thing was seen.
+    pub fn times(&self, thing: T) -> u64 {
+        self.seen.get(&thing).copied().unwrap_or(0)
+    }
+
     /// The line of a kind of things, some of which must have been seen.
-    pub fn line(&self, name: &'static str, due: impl IntoIterator<Item = T>) -> Line {
+    pub fn line(&self, name: impl Into<String>, due: impl IntoIterator<Item = T>) -> Line {
         let missing = due
             .into_iter()
             .filter(|thing| !self.seen.contains_key(thing));
         Line {
-            name,
+            name: name.into(),
             seen: self.to_string(),
             missing: missing.map(|thing| thing.to_string()).collect(),
         }

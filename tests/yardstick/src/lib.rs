@@ -15,4 +15,4 @@ pub use chain::{
 };
 pub use factory::factory;
 pub use file::{read, write, ChainAnswer, LengthAnswer, MAX_FILE};
-pub use report::{report, LONGEST_REPORT};
+pub use report::report;

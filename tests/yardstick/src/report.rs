@@ -15,7 +15,7 @@ const QUEUE_LINE: usize = 2 + 5 * 10 + 1 + 5 + 1;
 const BUSY_LINE: usize = 4 + 2 * 10 + 2 + 1;
 
 /// Bytes that every report has room in.
-pub const LONGEST_REPORT: usize = HEAD.len() + QUEUE_LINE * MAX_QUEUES + BUSY_LINE;
+const LONGEST_REPORT: usize = HEAD.len() + QUEUE_LINE * MAX_QUEUES + BUSY_LINE;
 
 /// A text that is being written.
 struct Text {
