@@ -1,16 +1,17 @@
 -- What the public calls promise of reports, handed on from the crates `decimal`, `reporttext` and `report`.
-unfoldable pub use Rattle.decimal.specs.Digits.{decimal, field, valueOf}
-pub use Rattle.decimal.specs.Digits.{Digits, value-of-decimal, decimal-digits, no-leading-zero}
+unfoldable pub use Rattle.decimal.specs.Digits.{digitsIn, decimal, column, valueFrom, valueOf}
+pub use Rattle.decimal.specs.Digits.{lastDigit, Digits, value-of-decimal, decimal-digits, no-leading-zero}
 unfoldable pub use Rattle.decimal.specs.Signed.{integer}
 pub use Rattle.decimal.specs.Signed.{minus-exact}
-pub use Rattle.reporttext.specs.Text.{heading, lines, busyWord}
+pub use Rattle.reporttext.specs.Text.{heading, headingLength, lines, busyWord}
 unfoldable pub use Rattle.reporttext.specs.Text.{numbers, line, busyLine, textOf}
-unfoldable pub use Rattle.reporttext.specs.Heading.{headed}
-pub use Rattle.reporttext.specs.Heading.{headed-true, first-line, report-headed}
+unfoldable pub use Rattle.reporttext.specs.Heading.{begins, headed}
+pub use Rattle.reporttext.specs.Heading.{begins-true, headed-true, first-line, report-headed}
 unfoldable pub use Rattle.reporttext.specs.Refused.{refusalText}
-pub use Rattle.reporttext.specs.Refused.{refusal-short}
-pub use Rattle.reporttext.specs.Feeds.{report-feeds}
-pub use Rattle.reporttext.specs.Short.{report-short}
+pub use Rattle.reporttext.specs.Refused.{longestRefusal, refusal-short}
+unfoldable pub use Rattle.reporttext.specs.Feeds.{feeds}
+pub use Rattle.reporttext.specs.Feeds.{Plain, OneLine, heading-one, queue-one, busy-one, report-feeds}
+pub use Rattle.reporttext.specs.Short.{longestLine, line-short, longestReport, report-short}
 pub use Rattle.report.specs.Checks.{reportText, reportChecks, report-1, report-2, report-3, report-4, report-5, report-6, report-7, report-10}
 unfoldable pub use Rattle.report.specs.Checks.{reportRefusal}
 pub use Rattle.report.specs.Accepted.{report-accepts, report-written}

@@ -16,6 +16,7 @@ pub use chainfile::write;
 pub use report::headed;
 pub use report::refusal_line;
 pub use report::report;
+pub use reporttext::LONGEST_REPORT;
 pub use sizing::Analysis;
 pub use sizing::AnalysisAnswer;
 pub use sizing::QueueSize;

@@ -1,6 +1,6 @@
 -- What the reader and the writer accept, both ways.
 --   Placed f, placed       what 1, 2 and 3 leave to be known: the count, the length, the total word, where the tables stand
---   Accepted f             what a file that the reader accepts is
+--   AcceptedFile f         what a file that the reader accepts is
 --   read-accepts           the reader accepts exactly such a file
 --   write-accepts          the writer accepts exactly a sound chain that fits
 --   read-fine, write-fine  a call that is silent answers number 0 with place 0
@@ -42,12 +42,12 @@ placed f e z = record { count = count-silent (countOf f) .0 (h .1 .0); long = le
     good P at end s = good-table (length f) at end .0 (test-silent 3 P (λ e. omega arith) _ .0 s)
 
 -- what a file that the reader accepts is: its tables stand well and apart, and what it says is a sound chain
-pub record Accepted (f : List ℕ) : Type 0 where
+pub record AcceptedFile (f : List ℕ) : Type 0 where
   pub places : Placed f
   pub apart : Shared (queuesAt f) (queuesAt f + 20 * countOf f) (nodesAt f) (nodesAt f + 4 * countOf f) → ⊥
   pub chain : Sound (chainOf f)
 
-pub read-accepts : (f : List ℕ) → Silent (readRefusal f) ↔ Accepted f
+pub read-accepts : (f : List ℕ) → Silent (readRefusal f) ↔ AcceptedFile f
 unfolding readRefusal headerRefusal offsetCheck chainOf Silents
 read-accepts f = Iff·trans (first-silent (readChecks f)) (out, back)
   where
@@ -63,14 +63,14 @@ read-accepts f = Iff·trans (first-silent (readChecks f)) (out, back)
     good : (P at end : ℕ) → GoodTable (length f) at end → Silent (test 3 P (badTable (length f) at end))
     good P at end g = passes P _ .1 (good-table (length f) at end .1 g)
 
-    out : Silents (readChecks f) → Accepted f
+    out : Silents (readChecks f) → AcceptedFile f
     out h = record {
       places = placed f refl (first-silent (lengthCheck f ∷ countCheck (countOf f) ∷ first offsets ∷ []) .1 (h .0, (h .1 .0, (h .1 .1 .0, tt))));
       apart = overlap-false (countOf f) (queuesAt f) (nodesAt f) .0 (passes 12 _ .0 (first-silent offsets .0 (h .1 .1 .0) .1 .1 .0));
       chain = own .0 (h .1 .0, h .1 .1 .1);
     }
 
-    back : Accepted f → Silents (readChecks f)
+    back : AcceptedFile f → Silents (readChecks f)
     back a =
         let p = a .places in
         let s = own .1 (a .chain) in

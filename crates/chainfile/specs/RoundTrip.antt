@@ -24,7 +24,7 @@ use Rattle.chain.specs.Sound.{SoundRow, Sound}
 use Rattle.chain.specs.declared.Chain.{Chain}
 use Rattle.chain.specs.declared.ChainAnswer.{ChainAnswer}
 use Rattle.chainfile.specs.File.{countOf, periodOf, queuesAt, nodesAt, totalOf, chainOf, readChecks, readRefusal, readAnswer}
-use Rattle.chainfile.specs.Accepted.{Placed, Accepted, read-accepts, write-accepts, read-fine, write-fine}
+use Rattle.chainfile.specs.Accepted.{Placed, AcceptedFile, read-accepts, write-accepts, read-fine, write-fine}
 use Rattle.chainfile.specs.Packed.{packedLength, header, rows, nodes, words, packed, writeRefusal, Output, output-fine, rows-length, packed-length, packed-parts}
 use Rattle.chainfile.specs.declared.LengthAnswer.{LengthAnswer}
 
@@ -90,7 +90,7 @@ module _ (c : Chain) (s : Sound c) where
     work = λ i h. rw (slot-used (workOf c) 0 16 (c .n) i 0 (omega (arith, s .count .1)) h) (s .work i h);
   }
 
-  packed-accepted : Accepted (packed c)
+  packed-accepted : AcceptedFile (packed c)
   packed-accepted = record {
     places = record {
       count = rw count-is (s .count);

@@ -13,7 +13,7 @@ use lib.ListN.{length, take, drop}
 use lib.Seq.{take-at}
 use borrow.Author.Tests.{eq-eqb, ne-eqb}
 use Rattle.ardenquill.specs.Files.{Output, output-fine, roomCheck}
-use Rattle.ardenquill.specs.Reports.{reportText, reportRefusal, refusalText, fileRefusal, report-written, report-roomy, refusal-room}
+use Rattle.ardenquill.specs.Reports.{reportText, reportRefusal, refusalText, fileRefusal, longestReport, report-written, report-roomy, refusal-room}
 use Rattle.chain.specs.declared.Refusal.{Refusal}
 use Rattle.chainfile.specs.declared.LengthAnswer.{LengthAnswer}
 
@@ -30,7 +30,7 @@ pub record Front (t p : List ℕ) (n : ℕ) : Type 0 where
 fronted : {t p : List ℕ} {n : ℕ} (o : List ℕ) → n ≡ length t → p ≡ t ++ drop (length t) o → Front t p n
 fronted {t} {p} {n} o e b = record { all = e; bytes = ap (take n) b ∙ take-at t _ n (sym e) }
 
-module _ (f o : List ℕ) (room : 1133 ≤ length o) {p : List ℕ} {a : LengthAnswer} (w : Output (reportRefusal f (length o)) (reportText f) o p a) where
+module _ (f o : List ℕ) (room : longestReport ≤ length o) {p : List ℕ} {a : LengthAnswer} (w : Output (reportRefusal f (length o)) (reportText f) o p a) where
   -- what the report call refuses with is what 1 to 7 refuse the file with
   number-same : a .number ≡ fileRefusal f .number
   number-same = ap (λ (v : LengthAnswer). v .number) (w .answer) ∙ ap (λ (r : Refusal). r .number) (report-roomy f (length o) room)

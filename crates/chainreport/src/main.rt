@@ -2,19 +2,20 @@
 // It only reads, calls and writes; one byte more than the longest file shows that a file is too long.
 ghost use Prim.Native.Nat.{_≤_};
 ghost use lib.ListN.{length};
+ghost use Rattle.ardenquill.specs.Reports.{longestReport};
 ghost use Rattle.chainreport.specs.Printed.{printed, Front};
 
 fn main() {
     let mut file = [0u8; 4097];
     let n = io::read_full(0, &mut file);
-    let mut text = [0u8; 1133];
+    let mut text = [0u8; ardenquill::LONGEST_REPORT];
     let end = answer(&file[..n], &mut text);
     print_front(&text, end);
 }
 
 // Makes what is to be printed of a file at the front of `text`, and answers its length.
 fn answer(file: &[u8], text: &mut [u8]) -> usize
-    requires { ⌜ 1133 ≤ length (now text) ⌝ }
+    requires { ⌜ longestReport ≤ length (now text) ⌝ }
     ensures { λ r. ⌜ Front (printed (now (file .entry))) (now (text .exit)) r × (r ≤ length (now (text .exit))) ⌝ }
 {
     let report = ardenquill::report(file, text);

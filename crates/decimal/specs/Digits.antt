@@ -1,8 +1,10 @@
 -- Numbers as decimal text (01, Report program: "writes decimal text", in its example without leading zeros).
 --   lastDigit n         the byte of n's last digit
+--   digitsIn k n        the bytes of n's digits, none for 0; k bounds how many
 --   decimal n           the bytes of n's digits, the highest first
 --   decimal-one, -more  its two cases: a number of one digit, and of more
 --   by-digits           what holds of the numbers of one digit, and with one digit more, holds of every number and its text
+--   valueFrom v t       the number that the digits t stand for behind those of v
 --   valueOf t           the number that digits in a row stand for
 --   Digits t            each byte of t is a digit
 --   value-of-decimal    the text read back is the number
@@ -12,8 +14,8 @@
 --   decimal-some, -short, -long
 --                       it has a byte; at most d bytes where the number is below 10 ^ d, and more than d from there on
 --   decimal-word        at most 10 bytes for a number of 32 bits
---   field n b           a number's text and one byte behind it
---   field-word          at most 11 bytes for a number of 32 bits
+--   column n b          a number's text and one byte behind it
+--   column-word         at most 11 bytes for a number of 32 bits
 use mathlib.Core.Path.{_≡_, refl, sym, ap, _∙_}
 use mathlib.Core.Bool.{Bool, true, false}
 use mathlib.Core.Logic.{_⊎_, inl, inr, ⊎-elim}
@@ -157,10 +159,10 @@ pub decimal-word : (n : ℕ) → n < 2 ^ 32 → length (decimal n) ≤ 10
 decimal-word n h = decimal-short 10 n (omega arith) (omega arith)
 
 -- a number and what ends it, a comma or a line feed (01, Report program)
-unfoldable pub field : ℕ → ℕ → List ℕ
+unfoldable pub column : ℕ → ℕ → List ℕ
 unfolding decimal
-field n b = decimal n ++ (b ∷ [])
+column n b = decimal n ++ (b ∷ [])
 
-pub field-word : (n b : ℕ) → n < 2 ^ 32 → length (field n b) ≤ 11
-unfolding field
-field-word n b h = omega (arith, length-append (decimal n) (b ∷ []), decimal-word n h)
+pub column-word : (n b : ℕ) → n < 2 ^ 32 → length (column n b) ≤ 11
+unfolding column
+column-word n b h = omega (arith, length-append (decimal n) (b ∷ []), decimal-word n h)

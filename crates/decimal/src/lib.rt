@@ -6,7 +6,7 @@ ghost use Prim.Native.Nat.{_+_, _≤_};
 ghost use lib.ListN.{length};
 ghost use lib.IntN.{natAbs};
 ghost use Rattle.words.specs.Put.{Room, Puts};
-ghost use Rattle.decimal.specs.Digits.{lastDigit, decimal, field};
+ghost use Rattle.decimal.specs.Digits.{lastDigit, decimal, column};
 ghost use Rattle.decimal.specs.Signed.{integer};
 
 // Writes one byte at `at`.
@@ -51,9 +51,9 @@ pub fn put_decimal(out: &mut [u8], at: usize, n: u32) -> usize
 }
 
 // Writes n and one byte behind it.
-pub fn put_field(out: &mut [u8], at: usize, n: u32, b: u8) -> usize
+pub fn put_column(out: &mut [u8], at: usize, n: u32, b: u8) -> usize
     requires { ⌜ Room (now out) at 11 ⌝ }
-    ensures { λ r. ⌜ Puts (now (out .entry)) at (field n b) (now (out .exit)) r × (r ≤ at + 11) ⌝ }
+    ensures { λ r. ⌜ Puts (now (out .entry)) at (column n b) (now (out .exit)) r × (r ≤ at + 11) ⌝ }
 {
     let k = put_decimal(out, at, n);
     put_byte(out, k, b)

@@ -1,12 +1,13 @@
 -- The report call's ways out, as its code has them: the reader refuses; 6 or 7 does; or the text of the analysis is written.
 use mathlib.Core.Path.{_≡_, refl, sym, ap, _∙_}
 use mathlib.Core.List.{List}
-use Prim.Native.Nat.{ℕ, _≤_}
+use Prim.Native.Nat.{ℕ}
 use borrow.Author.Tests.{eq-eqb}
 use lib.ListN.{length}
 use Rattle.chain.specs.Refusals.{refused, first, Silent, or-left, or-right}
 use Rattle.chain.specs.Record.{answered}
 use Rattle.chain.specs.Sound.{Sound}
+use Rattle.chain.specs.Faults.{Few}
 use Rattle.chain.specs.declared.Refusal.{Refusal}
 use Rattle.chain.specs.declared.Chain.{Chain}
 use Rattle.chain.specs.declared.ChainAnswer.{ChainAnswer}
@@ -58,9 +59,9 @@ module _ (f : List ℕ) {a : ChainAnswer} (is : a ≡ readAnswer f) where
         unfolding sized
         size-analysis = ap (λ (x : AnalysisAnswer). x .analysis) made ∙ simp (eq-eqb _ _ size-silent) (ap analysisOf read-chain)
 
-        pub few-queues : s .analysis .n ≤ 16
+        pub few-queues : Few (s .analysis .n)
         unfolding analysisOf
-        few-queues = rw size-analysis (read-accepts f .0 read-silent .chain .count .1)
+        few-queues = rw size-analysis (record { few = read-accepts f .0 read-silent .chain .count .1 })
 
         room-left : (room : ℕ) → roomCheck (length (reportText f)) room ≡ reportRefusal f room
         room-left room = or-right read-says z (or-right size-says y refl) ∙ sym (report-parts f room)

@@ -12,7 +12,7 @@ use lib.ListN.{length, drop}
 use Rattle.chain.specs.Tests.{below-false}
 use Rattle.chain.specs.Refusals.{fine, Silent, Silents, silent-as, first-fine, first-silent, or-silents, test-silent}
 use Rattle.chainfile.specs.File.{chainOf}
-use Rattle.chainfile.specs.Accepted.{Accepted as AcceptedFile, read-accepts}
+use Rattle.chainfile.specs.Accepted.{AcceptedFile, read-accepts}
 use Rattle.chainfile.specs.Packed.{written, roomCheck, Output, output-fine}
 use Rattle.chainfile.specs.declared.LengthAnswer.{LengthAnswer}
 use Rattle.sizing.specs.Sizes.{analysisOf}

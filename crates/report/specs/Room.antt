@@ -1,8 +1,8 @@
 -- Lent bytes that are always enough.
---   report-room    with 1,133 the report call never says 10
+--   report-room    with room for the longest report the report call never says 10
 --   fileRefusal f  what 1 to 7 refuse a file with
---   report-roomy   with 1,133 the report call says what these say
---   refusal-room   with 30 the line of a refusal is never refused
+--   report-roomy   with that room the report call says what these say
+--   refusal-room   with room for the longest line of a refusal it is never refused
 use mathlib.Core.Path.{_≡_, refl, sym, _∙_}
 use mathlib.Core.Logic.{by-cases}
 use mathlib.Core.List.{List}
@@ -18,11 +18,11 @@ use Rattle.chainfile.specs.Accepted.{read-accepts}
 use Rattle.chainfile.specs.Packed.{roomCheck}
 use Rattle.sizing.specs.Checks.{sizeChecks, rates-silent, load-silent}
 use Rattle.sizing.specs.Accepted.{Accepted}
-use Rattle.reporttext.specs.Refused.{refusalText, refusal-short}
-use Rattle.reporttext.specs.Short.{report-short}
+use Rattle.reporttext.specs.Refused.{refusalText, longestRefusal, refusal-short}
+use Rattle.reporttext.specs.Short.{longestReport, report-short}
 use Rattle.report.specs.Checks.{reportText, reportRefusal, sizeRefusal, report-parts, report-10}
 
-pub report-room : (f : List ℕ) (room L : ℕ) → 1133 ≤ room → reportRefusal f room ≡ refused 10 L → ⊥
+pub report-room : (f : List ℕ) (room L : ℕ) → longestReport ≤ room → reportRefusal f room ≡ refused 10 L → ⊥
 unfolding readRefusal Silents
 report-room f room L l e =
     let t = report-10 f room L .0 e in
@@ -32,7 +32,7 @@ report-room f room L l e =
     let accepted : Accepted (chainOf f) = record { chain = file .chain; rates = rates-silent (chainOf f) .0 (own .0); load = load-silent (chainOf f) .0 (own .1 .0) } in
     omega (arith, report-short (chainOf f) accepted, t .1)
 
-pub refusal-room : (N L room : ℕ) → N < 2 ^ 32 → L < 2 ^ 32 → 30 ≤ room → roomCheck (length (refusalText N L)) room ≡ fine
+pub refusal-room : (N L room : ℕ) → N < 2 ^ 32 → L < 2 ^ 32 → longestRefusal ≤ room → roomCheck (length (refusalText N L)) room ≡ fine
 refusal-room N L room n l h =
     let fits : length (refusalText N L) ≤ room = omega (arith, refusal-short N L n l) in
     simp (le-ltb _ _ fits)
@@ -41,7 +41,7 @@ refusal-room N L room n l h =
 abbrev pub fileRefusal : List ℕ → Refusal
 fileRefusal f = orElse (readRefusal f) (sizeRefusal f)
 
-module _ (f : List ℕ) (room : ℕ) (l : 1133 ≤ room) where
+module _ (f : List ℕ) (room : ℕ) (l : longestReport ≤ room) where
   -- a file that 1 to 7 pass has a report that fits
   passes : Silent (readRefusal f) → Silent (sizeRefusal f) → roomCheck (length (reportText f)) room ≡ fine
   unfolding sizeRefusal Silents

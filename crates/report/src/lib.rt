@@ -1,9 +1,10 @@
 // The report: the text of a chain file's analysis, and the line of a refusal, written into the caller's own bytes.
-ghost use Prim.Native.Nat.{_≤_};
 ghost use lib.ListN.{length};
+ghost use Rattle.chain.specs.Faults.{Few};
 ghost use Rattle.chainfile.specs.Packed.{roomCheck, Output};
 ghost use Rattle.reporttext.specs.Text.{textOf};
 ghost use Rattle.reporttext.specs.Refused.{refusalText};
+ghost use Rattle.reporttext.specs.Short.{longestReport, AtMost};
 ghost use Rattle.report.specs.Checks.{reportText, reportRefusal};
 use chainfile::LengthAnswer;
 pub use reporttext::headed;
@@ -30,7 +31,7 @@ pub fn report(file: &[u8], out: &mut [u8]) -> LengthAnswer
 pub fn refusal_line(number: u32, place: u32, out: &mut [u8]) -> LengthAnswer
     ensures { λ r. ⌜ Output (roomCheck (length (refusalText number place)) (length (now (out .entry)))) (refusalText number place) (now (out .entry)) (now (out .exit)) r ⌝ }
 {
-    let mut line = [0u8; 30];
+    let mut line = [0u8; reporttext::LONGEST_REFUSAL];
     let end = reporttext::put_refusal(&mut line, number, place);
     copy_text(&line[..end], out)
 }
@@ -38,20 +39,20 @@ pub fn refusal_line(number: u32, place: u32, out: &mut [u8]) -> LengthAnswer
 // Writes the report of an analysis, or 10 where there is no room for it. Where there is room for the longest report it
 // goes straight into the lent bytes; else its length has to be known before the first byte may be written.
 fn write_text(analysis: Analysis, out: &mut [u8]) -> LengthAnswer
-    requires { ⌜ analysis .n ≤ 16 ⌝ }
+    requires { ⌜ Few (analysis .n) ⌝ }
     ensures { λ r. ⌜ Output (roomCheck (length (textOf analysis)) (length (now (out .entry)))) (textOf analysis) (now (out .entry)) (now (out .exit)) r ⌝ }
 {
-    if 1133 <= out.len() {
+    if reporttext::LONGEST_REPORT <= out.len() {
         return chainfile::written(reporttext::put_text(out, analysis));
     }
-    let mut text = [0u8; 1133];
+    let mut text = [0u8; reporttext::LONGEST_REPORT];
     let end = reporttext::put_text(&mut text, analysis);
     copy_text(&text[..end], out)
 }
 
 // Copies a text to the front of the lent bytes, or 10 where there is no room for it.
 fn copy_text(text: &[u8], out: &mut [u8]) -> LengthAnswer
-    requires { ⌜ length (now text) ≤ 1133 ⌝ }
+    requires { ⌜ AtMost longestReport (now text) ⌝ }
     ensures { λ r. ⌜ Output (roomCheck (length (now (text .entry))) (length (now (out .entry)))) (now (text .entry)) (now (out .entry)) (now (out .exit)) r ⌝ }
 {
     let need = text.len();

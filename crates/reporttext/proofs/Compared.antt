@@ -11,7 +11,7 @@ use lib.Dec.{eqb}
 use borrow.Author.Tests.{eq-eqb, ne-eqb}
 use lib.ListN.{length, getD, drop}
 use lib.Seq.{drop-cons}
-use Rattle.reporttext.specs.Text.{heading}
+use Rattle.reporttext.specs.Text.{heading, headingLength}
 use Rattle.reporttext.specs.Heading.{begins, headed}
 
 -- a text that is too short does not begin with s
@@ -38,7 +38,7 @@ module _ (s t : List ℕ) (i : ℕ) (h : i < length s) (l : i < length t) where
   byte-other n = let m : getD s i 0 ≢ getD t i 0 = λ e. n (sym e) in sym (step ∙ simp (ne-eqb _ _ m))
 
 -- the comparison with the heading: of a text that is too short, before the first byte, and behind the last
-pub headed-short : (t : List ℕ) → length t < 34 → false ≡ headed t
+pub headed-short : (t : List ℕ) → length t < headingLength → false ≡ headed t
 unfolding headed
 headed-short t h = too-short heading t h
 
@@ -46,6 +46,6 @@ pub headed-start : (t : List ℕ) → begins (drop 0 heading) (drop 0 t) ≡ hea
 unfolding headed
 headed-start t = refl
 
-pub headed-end : (t : List ℕ) (i : ℕ) → i ≤ 34 → 34 ≤ i → true ≡ begins (drop i heading) (drop i t)
+pub headed-end : (t : List ℕ) (i : ℕ) → i ≤ headingLength → headingLength ≤ i → true ≡ begins (drop i heading) (drop i t)
 unfolding begins
-headed-end t i l h = let e : i ≡ 34 = omega arith in rw e refl
+headed-end t i l h = let e : i ≡ headingLength = omega arith in rw e refl

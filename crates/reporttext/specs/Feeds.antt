@@ -9,19 +9,19 @@ use mathlib.Core.Path.{_≡_, refl, sym, ap, _∙_}
 use mathlib.Core.Bool.{cond}
 use mathlib.Core.Logic.{_≢_}
 use mathlib.Core.List.{List, [], _∷_, _++_, append-assoc}
-use Prim.Native.Nat.{ℕ, zero, suc, _+_}
+use Prim.Native.Nat.{ℕ, zero, suc, _+_, _-_}
 use native.Mathlib.Omega.{arith}
 use lib.Dec.{eqb}
 use borrow.Author.Tests.{ne-eqb}
 use lib.ListN.{getD, take}
 use lib.IntN.{ℤ, pos, negsuc}
 use Rattle.words.specs.Flat.{flat}
-use Rattle.decimal.specs.Digits.{decimal, field, Digits, decimal-digits}
+use Rattle.decimal.specs.Digits.{decimal, column, Digits, decimal-digits}
 use Rattle.decimal.specs.Signed.{integer}
 use Rattle.sizing.specs.Sizes.{noSize}
 use Rattle.sizing.specs.declared.QueueSize.{QueueSize}
 use Rattle.sizing.specs.declared.Analysis.{Analysis}
-use Rattle.reporttext.specs.Text.{heading, numbers, line, lines, busyWord, busyLine, textOf}
+use Rattle.reporttext.specs.Text.{heading, headingLength, numbers, line, lines, busyWord, busyLine, textOf}
 
 -- how many bytes are a line feed (10)
 unfoldable pub feeds : List ℕ → ℕ
@@ -56,8 +56,8 @@ plain-digits (b ∷ t) d =
 plain-decimal : (n : ℕ) → Plain (decimal n)
 plain-decimal n = record { none = plain-digits (decimal n) (decimal-digits n) }
 
-plain-comma : (n : ℕ) → Plain (field n 44)
-unfolding field feeds
+plain-comma : (n : ℕ) → Plain (column n 44)
+unfolding column feeds
 plain-comma n = plain-append (plain-decimal n) (record { none = refl })
 
 plain-integer : (z : ℤ) → Plain (integer z)
@@ -79,17 +79,17 @@ queue-one i q = record {
 }
 
 pub busy-one : (a : Analysis) → OneLine (busyLine a)
-unfolding busyLine field feeds
+unfolding busyLine column feeds
 busy-one a = record {
-  body = busyWord ++ (field (a .busy) 44 ++ decimal (a .cycle));
+  body = busyWord ++ (column (a .busy) 44 ++ decimal (a .cycle));
   plain = plain-append {s = busyWord} (record { none = refl }) (plain-append (plain-comma (a .busy)) (plain-decimal (a .cycle)));
-  ended = ap (λ (t : List ℕ). busyWord ++ t) (sym (append-assoc (field (a .busy) 44) (decimal (a .cycle)) (10 ∷ [])));
+  ended = ap (λ (t : List ℕ). busyWord ++ t) (sym (append-assoc (column (a .busy) 44) (decimal (a .cycle)) (10 ∷ [])));
 }
 
 pub heading-one : OneLine heading
 unfolding feeds
 heading-one = record {
-  body = take 33 heading;
+  body = take (headingLength - 1) heading;
   plain = record { none = refl };
   ended = refl;
 }

@@ -2,7 +2,7 @@
 --   begins s t      the text t begins with s
 --   begins-true     that is so exactly where the first bytes of t are s
 --   headed t        the text t begins with a report's first line
---   headed-true     that is so exactly where its first 34 bytes are that line
+--   headed-true     that is so exactly where its first bytes are that line
 --   first-line      it is the first line of every report
 --   report-headed   a report with anything behind it begins with it
 use mathlib.Core.Path.{_≡_, refl, sym, ap, ap₂}
@@ -16,7 +16,7 @@ use borrow.Author.Tests.{eq-eqb, eqb-true}
 use lib.ListN.{length, getD, take, drop}
 use Rattle.chain.specs.Tests.{and-true}
 use Rattle.sizing.specs.declared.Analysis.{Analysis}
-use Rattle.reporttext.specs.Text.{heading, textOf}
+use Rattle.reporttext.specs.Text.{heading, headingLength, textOf}
 
 -- a text begins with another
 unfoldable pub begins : List ℕ → List ℕ → Bool
@@ -38,11 +38,11 @@ unfoldable pub headed : List ℕ → Bool
 unfolding begins
 headed t = begins heading t
 
-pub headed-true : (t : List ℕ) → (headed t ≡ true) ↔ (take 34 t ≡ heading)
+pub headed-true : (t : List ℕ) → (headed t ≡ true) ↔ (take headingLength t ≡ heading)
 unfolding headed
 headed-true t = begins-true heading t
 
-pub first-line : (a : Analysis) → take 34 (textOf a) ≡ heading
+pub first-line : (a : Analysis) → take headingLength (textOf a) ≡ heading
 unfolding textOf
 first-line a = refl
 

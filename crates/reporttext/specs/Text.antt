@@ -1,5 +1,6 @@
 -- The report's text (01, Report program), as bytes.
 --   heading          the first line
+--   headingLength    how many bytes it has
 --   numbers i q      queue i's number, rate, minimum and capacity, a comma behind each
 --   line i q         queue i's line: these, then the margin
 --   lines a i        the lines of the first i queues
@@ -10,7 +11,7 @@ use mathlib.Core.List.{List, [], _∷_, _++_}
 use Prim.Native.Nat.{ℕ}
 use lib.ListN.{getD}
 use Rattle.words.specs.Flat.{flat}
-use Rattle.decimal.specs.Digits.{field}
+use Rattle.decimal.specs.Digits.{column}
 use Rattle.decimal.specs.Signed.{integer}
 use Rattle.sizing.specs.Sizes.{noSize}
 use Rattle.sizing.specs.declared.QueueSize.{QueueSize}
@@ -22,10 +23,14 @@ heading =
     113 ∷ 117 ∷ 101 ∷ 117 ∷ 101 ∷ 44 ∷ 120 ∷ 44 ∷ 121 ∷ 44 ∷ 109 ∷ 105 ∷ 110 ∷ 105 ∷ 109 ∷ 117 ∷ 109 ∷ 44
     ∷ 99 ∷ 97 ∷ 112 ∷ 97 ∷ 99 ∷ 105 ∷ 116 ∷ 121 ∷ 44 ∷ 109 ∷ 97 ∷ 114 ∷ 103 ∷ 105 ∷ 110 ∷ 10 ∷ []
 
+-- how many bytes these are
+abbrev pub headingLength : ℕ
+headingLength = 34
+
 -- "its number, its consumer's rate, b, capacity", with a comma (44) behind each
 unfoldable pub numbers : ℕ → QueueSize → List ℕ
-unfolding field
-numbers i q = field i 44 ++ (field (q .x) 44 ++ (field (q .y) 44 ++ (field (q .minimum) 44 ++ field (q .capacity) 44)))
+unfolding column
+numbers i q = column i 44 ++ (column (q .x) 44 ++ (column (q .y) 44 ++ (column (q .minimum) 44 ++ column (q .capacity) 44)))
 
 -- and the "margin"; "each line ended by one line feed" (10)
 unfoldable pub line : ℕ → QueueSize → List ℕ
@@ -41,8 +46,8 @@ abbrev pub busyWord : List ℕ
 busyWord = 98 ∷ 117 ∷ 115 ∷ 121 ∷ 44 ∷ []
 
 unfoldable pub busyLine : Analysis → List ℕ
-unfolding field
-busyLine a = busyWord ++ (field (a .busy) 44 ++ field (a .cycle) 10)
+unfolding column
+busyLine a = busyWord ++ (column (a .busy) 44 ++ column (a .cycle) 10)
 
 -- the whole report
 unfoldable pub textOf : Analysis → List ℕ

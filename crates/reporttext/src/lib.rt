@@ -5,22 +5,32 @@ ghost use Prim.Native.Nat.{_+_, _*_, _≤_};
 ghost use Rattle.words.specs.Put.{Room, Puts};
 ghost use Rattle.reporttext.specs.Text.{numbers, line, lines, textOf};
 ghost use Rattle.reporttext.specs.Heading.{headed};
-ghost use Rattle.reporttext.specs.Refused.{refusalText};
+ghost use Rattle.reporttext.specs.Refused.{longestRefusal, refusalText};
+ghost use Rattle.reporttext.specs.Short.{longestLine, longestReport, LinesFit};
 use sizing::Analysis;
 use sizing::QueueSize;
 
+// Bytes enough for every report.
+pub const LONGEST_REPORT: usize = 1133;
+
+// Bytes enough for the line of every refusal.
+pub const LONGEST_REFUSAL: usize = 30;
+
+// The length in bytes of a report's first line.
+const HEADING_LENGTH: usize = 34;
+
 // The first line of every report.
-const HEADING: [u8; 34] = *b"queue,x,y,minimum,capacity,margin\n";
+const HEADING: [u8; HEADING_LENGTH] = *b"queue,x,y,minimum,capacity,margin\n";
 
 // Whether a text begins with a report's first line.
 pub fn headed(text: &[u8]) -> bool
     ensures { λ r. ⌜ r ≡ headed (now (text .entry)) ⌝ }
 {
-    if text.len() < 34 {
+    if text.len() < HEADING_LENGTH {
         return false;
     }
     let mut i = 0;
-    while i < 34 {
+    while i < HEADING_LENGTH {
         if text[i] != HEADING[i] {
             return false;
         }
@@ -31,20 +41,20 @@ pub fn headed(text: &[u8]) -> bool
 
 // Writes the whole report of an analysis to the front of `out`, and answers its length.
 pub fn put_text(out: &mut [u8], analysis: Analysis) -> usize
-    requires { ⌜ (analysis .n ≤ 16) × Room (now out) 0 1133 ⌝ }
-    ensures { λ r. ⌜ Puts (now (out .entry)) 0 (textOf analysis) (now (out .exit)) r × (r ≤ 1133) ⌝ }
+    requires { ⌜ LinesFit (analysis .n) (now out) 0 longestReport ⌝ }
+    ensures { λ r. ⌜ Puts (now (out .entry)) 0 (textOf analysis) (now (out .exit)) r × (r ≤ longestReport) ⌝ }
 {
     let a = decimal::put_bytes(out, 0, &HEADING);
     let b = put_lines(out, a, analysis);
     let c = decimal::put_bytes(out, b, b"busy,");
-    let d = decimal::put_field(out, c, analysis.busy, b',');
-    decimal::put_field(out, d, analysis.cycle, b'\n')
+    let d = decimal::put_column(out, c, analysis.busy, b',');
+    decimal::put_column(out, d, analysis.cycle, b'\n')
 }
 
 // Writes a line for each queue at `at`.
 fn put_lines(out: &mut [u8], at: usize, analysis: Analysis) -> usize
-    requires { ⌜ (analysis .n ≤ 16) × Room (now out) at (67 * analysis .n) ⌝ }
-    ensures { λ r. ⌜ Puts (now (out .entry)) at (lines analysis (analysis .n)) (now (out .exit)) r × (r ≤ at + 67 * analysis .n) ⌝ }
+    requires { ⌜ LinesFit (analysis .n) (now out) at (longestLine * analysis .n) ⌝ }
+    ensures { λ r. ⌜ Puts (now (out .entry)) at (lines analysis (analysis .n)) (now (out .exit)) r × (r ≤ at + longestLine * analysis .n) ⌝ }
 {
     let n = analysis.n as usize;
     let mut i = 0;
@@ -59,8 +69,8 @@ fn put_lines(out: &mut [u8], at: usize, analysis: Analysis) -> usize
 
 // Writes queue i's line at `at`.
 fn put_line(out: &mut [u8], at: usize, i: u32, q: QueueSize) -> usize
-    requires { ⌜ Room (now out) at 67 ⌝ }
-    ensures { λ r. ⌜ Puts (now (out .entry)) at (line i q) (now (out .exit)) r × (r ≤ at + 67) ⌝ }
+    requires { ⌜ Room (now out) at longestLine ⌝ }
+    ensures { λ r. ⌜ Puts (now (out .entry)) at (line i q) (now (out .exit)) r × (r ≤ at + longestLine) ⌝ }
 {
     let a = put_numbers(out, at, i, q);
     let b = decimal::put_integer(out, a, q.margin);
@@ -72,19 +82,19 @@ fn put_numbers(out: &mut [u8], at: usize, i: u32, q: QueueSize) -> usize
     requires { ⌜ Room (now out) at 55 ⌝ }
     ensures { λ r. ⌜ Puts (now (out .entry)) at (numbers i q) (now (out .exit)) r × (r ≤ at + 55) ⌝ }
 {
-    let a = decimal::put_field(out, at, i, b',');
-    let b = decimal::put_field(out, a, q.x, b',');
-    let c = decimal::put_field(out, b, q.y, b',');
-    let d = decimal::put_field(out, c, q.minimum, b',');
-    decimal::put_field(out, d, q.capacity, b',')
+    let a = decimal::put_column(out, at, i, b',');
+    let b = decimal::put_column(out, a, q.x, b',');
+    let c = decimal::put_column(out, b, q.y, b',');
+    let d = decimal::put_column(out, c, q.minimum, b',');
+    decimal::put_column(out, d, q.capacity, b',')
 }
 
 // Writes the line of a refusal to the front of `out`, and answers its length.
 pub fn put_refusal(out: &mut [u8], number: u32, place: u32) -> usize
-    requires { ⌜ Room (now out) 0 30 ⌝ }
-    ensures { λ r. ⌜ Puts (now (out .entry)) 0 (refusalText number place) (now (out .exit)) r × (r ≤ 30) ⌝ }
+    requires { ⌜ Room (now out) 0 longestRefusal ⌝ }
+    ensures { λ r. ⌜ Puts (now (out .entry)) 0 (refusalText number place) (now (out .exit)) r × (r ≤ longestRefusal) ⌝ }
 {
     let a = decimal::put_bytes(out, 0, b"refused,");
-    let b = decimal::put_field(out, a, number, b',');
-    decimal::put_field(out, b, place, b'\n')
+    let b = decimal::put_column(out, a, number, b',');
+    decimal::put_column(out, b, place, b'\n')
 }

@@ -22,7 +22,7 @@ slice-aggregate-copy-text c = sym (length-take-le _ _ (search needs))
 copy-text-requires : tie.Need-copy-text-requires
 copy-text-requires c κs =
     let p = c .before .before .before .put-refusal .ensures in
-    rw (taken (p .0) (p .1)) (omega arith)
+    rw (taken (p .0) (p .1)) (record { bytes = omega arith })
 
 same-length : tie.Need-same-length
 same-length c = search needs

@@ -42,7 +42,7 @@ slice-aggregate-copy-text c = sym (length-take-le _ _ (search needs))
 copy-text-requires : tie.Need-copy-text-requires
 copy-text-requires c κs =
     let p = c .before .before .before .put-text2 .ensures in
-    rw (taken (p .0) (p .1)) (omega arith)
+    rw (taken (p .0) (p .1)) (record { bytes = omega arith })
 
 same-length-2 : tie.Need-same-length-2
 same-length-2 c = search needs

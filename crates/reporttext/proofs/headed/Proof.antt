@@ -4,17 +4,17 @@ use borrow.Author.Needs.{needs}
 use mathlib.Core.Path.{_≡_, _∙_}
 use Prim.Native.Nat.{_≤_, _-_}
 use lib.ListN.{drop}
-use Rattle.reporttext.specs.Text.{heading}
+use Rattle.reporttext.specs.Text.{heading, headingLength}
 use Rattle.reporttext.specs.Heading.{begins, headed}
 use Rattle.reporttext.proofs.Compared.{byte-same, byte-other, headed-short, headed-start, headed-end}
 use Rattle.reporttext.proofs.headed.Statement.{statement}
 use Rattle.reporttext.proofs.headed.Tie as tie
 
 abbrev Inv-loop : tie.InvT-loop
-Inv-loop text i₀ i = (i ≤ 34) × (begins (drop i heading) (drop i text) ≡ headed text)
+Inv-loop text i₀ i = (i ≤ headingLength) × (begins (drop i heading) (drop i text) ≡ headed text)
 
 abbrev μ-loop : tie.MeasureT-loop
-μ-loop text i₀ i = 34 - i
+μ-loop text i₀ i = headingLength - i
 
 returns : tie.Need-returns Inv-loop μ-loop
 returns c = headed-short (c .before .args .text .now) (c .if1 .taken)

@@ -4,12 +4,13 @@ use borrow.Author.Needs.{needs}
 use Prim.Native.Nat.{_+_, _*_, _≤_, _-_}
 use Rattle.words.specs.Put.{Puts, puts-length}
 use Rattle.reporttext.specs.Text.{lines}
+use Rattle.reporttext.specs.Short.{longestLine}
 use Rattle.reporttext.proofs.Lines.{lines-none, lines-more, lines-end}
 use Rattle.reporttext.proofs.put_lines.Statement.{statement}
 use Rattle.reporttext.proofs.put_lines.Tie as tie
 
 abbrev Inv-loop : tie.InvT-loop
-Inv-loop out₀ at analysis n i₀ k₀ out i k = (i ≤ n) × Puts out₀ at (lines analysis i) out k × (k ≤ at + 67 * i)
+Inv-loop out₀ at analysis n i₀ k₀ out i k = (i ≤ n) × Puts out₀ at (lines analysis i) out k × (k ≤ at + longestLine * i)
 
 abbrev μ-loop : tie.MeasureT-loop
 μ-loop out₀ at analysis n i₀ k₀ out i k = n - i

@@ -6,20 +6,20 @@ use Rattle.reporttext.specs.Text.{numbers}
 use Rattle.reporttext.proofs.put_numbers.Statement.{statement}
 use Rattle.reporttext.proofs.put_numbers.Tie as tie
 
-put-field-requires : tie.Need-put-field-requires
-put-field-requires c κs = search needs
+put-column-requires : tie.Need-put-column-requires
+put-column-requires c κs = search needs
 
-put-field-requires-2 : tie.Need-put-field-requires-2
-put-field-requires-2 c κs = search needs
+put-column-requires-2 : tie.Need-put-column-requires-2
+put-column-requires-2 c κs = search needs
 
-put-field-requires-3 : tie.Need-put-field-requires-3
-put-field-requires-3 c κs = search needs
+put-column-requires-3 : tie.Need-put-column-requires-3
+put-column-requires-3 c κs = search needs
 
-put-field-requires-4 : tie.Need-put-field-requires-4
-put-field-requires-4 c κs = search needs
+put-column-requires-4 : tie.Need-put-column-requires-4
+put-column-requires-4 c κs = search needs
 
-put-field-requires-5 : tie.Need-put-field-requires-5
-put-field-requires-5 c κs = search needs
+put-column-requires-5 : tie.Need-put-column-requires-5
+put-column-requires-5 c κs = search needs
 
 same-length : tie.Need-same-length
 same-length c = search needs
@@ -32,16 +32,16 @@ returns c =
     let c3 = c4 .before .before .before .before in
     let c2 = c3 .before .before .before .before in
     let c1 = c2 .before .before .before .before in
-    (then (c1 .put-field .ensures .0) (then (c2 .put-field2 .ensures .0) (then (c3 .put-field3 .ensures .0) (then (c4 .put-field4 .ensures .0) (c5 .put-field5 .ensures .0)))), omega arith)
+    (then (c1 .put-column .ensures .0) (then (c2 .put-column2 .ensures .0) (then (c3 .put-column3 .ensures .0) (then (c4 .put-column4 .ensures .0) (c5 .put-column5 .ensures .0)))), omega arith)
 
 pub put-numbers-spec : {M : Type 1} → statement M
 put-numbers-spec =
     tie.close
     (tie.spec
-    put-field-requires
-    put-field-requires-2
-    put-field-requires-3
-    put-field-requires-4
-    put-field-requires-5
+    put-column-requires
+    put-column-requires-2
+    put-column-requires-3
+    put-column-requires-4
+    put-column-requires-5
     same-length
     returns)

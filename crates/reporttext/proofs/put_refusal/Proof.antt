@@ -12,11 +12,11 @@ slice-aggregate-put-bytes c = search needs
 put-bytes-requires : tie.Need-put-bytes-requires
 put-bytes-requires c κs = search needs
 
-put-field-requires : tie.Need-put-field-requires
-put-field-requires c κs = search needs
+put-column-requires : tie.Need-put-column-requires
+put-column-requires c κs = search needs
 
-put-field-requires-2 : tie.Need-put-field-requires-2
-put-field-requires-2 c κs = search needs
+put-column-requires-2 : tie.Need-put-column-requires-2
+put-column-requires-2 c κs = search needs
 
 same-length : tie.Need-same-length
 same-length c = search needs
@@ -26,7 +26,7 @@ unfolding refusalText
 returns c =
     let c3 = c .before .before in
     let c2 = c3 .before .before .before .before in
-    (then (c2 .before .before .before .before .put-bytes .ensures) (then (c2 .put-field .ensures .0) (c3 .put-field2 .ensures .0)), omega arith)
+    (then (c2 .before .before .before .before .put-bytes .ensures) (then (c2 .put-column .ensures .0) (c3 .put-column2 .ensures .0)), omega arith)
 
 pub put-refusal-spec : {M : Type 1} → statement M
 put-refusal-spec =
@@ -34,7 +34,7 @@ put-refusal-spec =
     (tie.spec
     slice-aggregate-put-bytes
     put-bytes-requires
-    put-field-requires
-    put-field-requires-2
+    put-column-requires
+    put-column-requires-2
     same-length
     returns)

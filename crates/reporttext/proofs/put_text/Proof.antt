@@ -21,11 +21,11 @@ slice-aggregate-put-bytes-2 c = search needs
 put-bytes-requires-2 : tie.Need-put-bytes-requires-2
 put-bytes-requires-2 c κs = search needs
 
-put-field-requires : tie.Need-put-field-requires
-put-field-requires c κs = search needs
+put-column-requires : tie.Need-put-column-requires
+put-column-requires c κs = search needs
 
-put-field-requires-2 : tie.Need-put-field-requires-2
-put-field-requires-2 c κs = search needs
+put-column-requires-2 : tie.Need-put-column-requires-2
+put-column-requires-2 c κs = search needs
 
 same-length : tie.Need-same-length
 same-length c = search needs
@@ -38,7 +38,7 @@ returns c =
     let word = busy .before .before .before .before in
     let rows = word .before .before .before .before .before in
     let head = rows .before .before .before .before in
-    (then (head .put-bytes .ensures) (then (rows .put-lines .ensures .0) (then (word .put-bytes2 .ensures) (then (busy .put-field .ensures .0) (cycle .put-field2 .ensures .0)))), omega arith)
+    (then (head .put-bytes .ensures) (then (rows .put-lines .ensures .0) (then (word .put-bytes2 .ensures) (then (busy .put-column .ensures .0) (cycle .put-column2 .ensures .0)))), omega arith)
 
 pub put-text-spec : {M : Type 1} → statement M
 put-text-spec =
@@ -49,7 +49,7 @@ put-text-spec =
     put-lines-requires
     slice-aggregate-put-bytes-2
     put-bytes-requires-2
-    put-field-requires
-    put-field-requires-2
+    put-column-requires
+    put-column-requires-2
     same-length
     returns)
