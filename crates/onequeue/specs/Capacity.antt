@@ -88,7 +88,7 @@ short-is B b = (out, back)
     back : (B ≢ 0) × (B < b) → ltZ (margin (capacity B b) b) (pos 0) ≡ true
     back h = margin-negative (capacity B b) b .1 (omega (arith, capacity-written B b (h .0), h .1))
 
--- 01's ranges: B is at most 1,000,000, and b at most 131,069
+-- both at most 1,000,000: B by 01's range, and b since it is at most 131,069
 pub record Within (k b : ℕ) : Type 0 where
   pub capacity : k ≤ 1000000
   pub minimum : b ≤ 1000000

@@ -8,8 +8,8 @@
 --   permeate-figure          the rate that a spreadsheet's g gets wrong, computed
 --   next-stretch             the new y is `stretch` times y
 --   next-balance             in `stretch` times y ticks the node takes out exactly what was put in
---   stretch-least            and in no smaller number of y can it: the rate is not 003's with another g
---   next-pos, stretch-pos    neither x nor y nor stretch is 0
+--   stretch-least            and in no smaller number of y can it, so no smaller g would do
+--   next-pos, stretch-pos    neither the new x nor stretch is 0
 --   stretch-below            stretch is at most c
 --   rate-by-parts            the same numbers by the gcd of p and c, and of x and what that leaves of c
 --   Step q x                 what the code of a step asks

@@ -51,16 +51,16 @@ module _ (c : Chain) where
       unfolding analysisOf
       run-few = record { few = rw (ap (λ (b : AnalysisAnswer). b .analysis .n) whole) (sound-chain .count .1) }
 
-      short-is : {r : Refusal} → r ≡ shortIn (a .analysis) → r ≡ capacityCheck c
-      short-is f = f ∙ ap (λ (b : AnalysisAnswer). shortIn (b .analysis)) whole ∙ short-is-capacity c (sound-chain .count .1)
+      short-same : {r : Refusal} → r ≡ shortIn (a .analysis) → r ≡ capacityCheck c
+      short-same f = f ∙ ap (λ (b : AnalysisAnswer). shortIn (b .analysis)) whole ∙ short-is-capacity c (sound-chain .count .1)
 
       -- the way out at 8, and the last one
       pub run-short : {r : Refusal} → r ≡ shortIn (a .analysis) → (Silent r → ⊥) → refusedWith (r .number) (r .place) ≡ runAnswer c
       unfolding runAnswer
-      run-short {r} f n = sized-refused r c n ∙ ap (λ (g : Refusal). sized g c) (or-right refl accepted (short-is f) ∙ sym (run-parts c))
+      run-short {r} f n = sized-refused r c n ∙ ap (λ (g : Refusal). sized g c) (or-right refl accepted (short-same f) ∙ sym (run-parts c))
 
       pub run-whole : {r : Refusal} → r ≡ shortIn (a .analysis) → Silent r → a ≡ runAnswer c
       unfolding runAnswer capacityCheck
       run-whole f s =
-          let last : fine ≡ capacityCheck c = sym (first-fine (tab (c .n) (capacityTest c)) (silent-as (short-is f) s)) in
+          let last : fine ≡ capacityCheck c = sym (first-fine (tab (c .n) (capacityTest c)) (silent-as (short-same f) s)) in
           whole ∙ sized-fine c (or-right refl accepted last ∙ sym (run-parts c))

@@ -1,5 +1,6 @@
 -- The checks of the analysis, 6 and 7, and of a run, 8 (01, Numbers a call may refuse with).
---   limit, tooLarge x y        4,294,967,295, and whether a rate passes it (too-large-true, -false)
+--   limit, limit-word          4,294,967,295, the largest number of 32 bits
+--   tooLarge x y               whether a rate passes it (too-large-true, -false)
 --   rateTest c i, rateCheck c  6 of node i+1, and of the chain: the lowest such node
 --   loadCheck c                7: overloaded
 --   capacityTest c i, capacityCheck c
@@ -13,15 +14,19 @@
 --   shortTest a i, shortIn a   8 as an analysis shows it; short-is-capacity: which is 8 of the chain
 --   InLimit, FirstTooLarge, Short, Enough, FirstShort
 --                              01's conditions of 6 and 8, in words
---   rate-, rates-, load-, enough-, capacity-exact, -silent, -only
---                              each check speaks exactly under its condition, is silent elsewhere, and speaks with its own number
+--   rate-, load-, capacity-exact
+--                              each check speaks exactly under its condition
+--   rate-, rates-, load-, enough-, capacity-silent
+--                              and is silent exactly elsewhere: of one node or queue, and of all
+--   rate-, load-, capacity-only
+--                              and speaks with its own number
 --   analyse-2 to analyse-7, run-8, run-earlier
 --                              when a chain is refused with each number
 use mathlib.Core.Path.{_≡_, refl, sym, ap, _∙_}
 use mathlib.Core.Bool.{Bool, true, false, cond, not, _||_, _&&_}
 use mathlib.Core.Logic.{_↔_, _≢_, _⊎_, inl, ⊎-elim, Iff·trans, Iff·and, Iff·rfl, true-and}
 use mathlib.Core.List.{List, [], _∷_, _++_}
-use Prim.Native.Nat.{ℕ, zero, suc, _+_, _*_, _≤_, _<_}
+use Prim.Native.Nat.{ℕ, zero, suc, _+_, _*_, _^_, _≤_, _<_}
 use native.Mathlib.Nat.{le-refl}
 use native.Mathlib.Omega.{arith}
 use lib.Dec.{ltb, eqb}
@@ -45,6 +50,10 @@ use Rattle.sizing.specs.declared.AnalysisAnswer.{AnalysisAnswer}
 -- the largest x and the largest y of a rate
 abbrev pub limit : ℕ
 limit = 4294967295
+
+-- it is the largest number of 32 bits
+pub limit-word : limit + 1 ≡ 2 ^ 32
+limit-word = refl
 
 -- "some x or y of a rate is above 4,294,967,295"
 abbrev pub tooLarge : ℕ → ℕ → Bool
@@ -181,7 +190,7 @@ short-alike B b = by (eqb B 0)
     by true = le-ltb b b (le-refl b)
     by false = refl
 
--- queue i's capacity is written, and below its minimum; or it is neither
+-- queue i's capacity is written, and below its minimum; or it is not written, or not below
 abbrev pub Short : Chain → ℕ → Type 0
 Short c i = (rowOf c i .capacity ≢ 0) × (rowOf c i .capacity < minimumOf (rowOf c i))
 
@@ -241,33 +250,45 @@ module _ (c : Chain) where
 
 -- a chain is refused with a number exactly when no earlier check speaks and the number's own condition holds
 module _ (c : Chain) (L : ℕ) where
-  analyse-at : (k : ℕ) → k < 5 → (analyseRefusal c ≡ refused (getD (2 ∷ 4 ∷ 5 ∷ 6 ∷ 7 ∷ []) k 0) L) ↔ (Silents (take k (analyseChecks c)) × (getD (analyseChecks c) k fine ≡ refused (getD (2 ∷ 4 ∷ 5 ∷ 6 ∷ 7 ∷ []) k 0) L))
-  unfolding analyseRefusal Numbered
-  analyse-at k l = exact-at (2 ∷ 4 ∷ 5 ∷ 6 ∷ 7 ∷ []) (analyseChecks c)
-      (count-only (c .n), (range-only c 20 (20 + 20 * c .n), (order-only c 20, (rate-only c, (load-only c, tt)))))
-      tt k L l
+  -- the numbers of a run's checks, in order: each speaks with its own; those of the analysis are the first five
+  order : List ℕ
+  order = 2 ∷ 4 ∷ 5 ∷ 6 ∷ 7 ∷ 8 ∷ []
+
+  each : Numbered order (runChecks c)
+  unfolding Numbered order
+  each = (count-only (c .n), (range-only c 20 (20 + 20 * c .n), (order-only c 20, (rate-only c, (load-only c, (capacity-only c, tt))))))
+
+  five : Numbered (take 5 order) (analyseChecks c)
+  unfolding Numbered order
+  five = (each .0, (each .1 .0, (each .1 .1 .0, (each .1 .1 .1 .0, (each .1 .1 .1 .1 .0, tt)))))
+
+  analyse-at : (k : ℕ) → k < 5 → (analyseRefusal c ≡ refused (getD (take 5 order) k 0) L) ↔ (Silents (take k (analyseChecks c)) × (getD (analyseChecks c) k fine ≡ refused (getD (take 5 order) k 0) L))
+  unfolding analyseRefusal order
+  analyse-at k l = exact-at (take 5 order) (analyseChecks c) five tt k L l
 
   pub analyse-2 : (analyseRefusal c ≡ refused 2 L) ↔ (Out 1 16 (c .n) × (L ≡ 0))
-  unfolding Silents
+  unfolding Silents order
   analyse-2 = Iff·trans (analyse-at 0 (omega arith)) (Iff·trans true-and (count-exact L (c .n)))
 
   pub analyse-4 : (analyseRefusal c ≡ refused 4 L) ↔ (Silents (countCheck (c .n) ∷ []) × FirstOut (fields c 20 (20 + 20 * c .n)) L)
+  unfolding order
   analyse-4 = Iff·trans (analyse-at 1 (omega arith)) (Iff·and Iff·rfl (range-exact L c 20 (20 + 20 * c .n)))
 
   pub analyse-5 : (analyseRefusal c ≡ refused 5 L) ↔ (Silents (countCheck (c .n) ∷ recordRange c ∷ []) × FirstOver c 20 L)
+  unfolding order
   analyse-5 = Iff·trans (analyse-at 2 (omega arith)) (Iff·and Iff·rfl (order-exact L c 20))
 
   pub analyse-6 : (analyseRefusal c ≡ refused 6 L) ↔ (Silents (chainChecks c) × FirstTooLarge c L)
+  unfolding order
   analyse-6 = Iff·trans (analyse-at 3 (omega arith)) (Iff·and Iff·rfl (rate-exact c L))
 
   pub analyse-7 : (analyseRefusal c ≡ refused 7 L) ↔ (Silents (chainChecks c ++ (rateCheck c ∷ [])) × ((cycleOf c < busyOf c) × (L ≡ 0)))
+  unfolding order
   analyse-7 = Iff·trans (analyse-at 4 (omega arith)) (Iff·and Iff·rfl (load-exact c L))
 
   pub run-8 : (runRefusal c ≡ refused 8 L) ↔ (Silents (analyseChecks c) × FirstShort c L)
-  unfolding runRefusal Numbered
-  run-8 = Iff·trans (exact-at (2 ∷ 4 ∷ 5 ∷ 6 ∷ 7 ∷ 8 ∷ []) (runChecks c)
-      (count-only (c .n), (range-only c 20 (20 + 20 * c .n), (order-only c 20, (rate-only c, (load-only c, (capacity-only c, tt))))))
-      tt 5 L (omega arith)) (Iff·and Iff·rfl (capacity-exact c L))
+  unfolding runRefusal order
+  run-8 = Iff·trans (exact-at order (runChecks c) each tt 5 L (omega arith)) (Iff·and Iff·rfl (capacity-exact c L))
 
   -- every other number is said of a chain that is to be run exactly when the analysis says it
   pub run-earlier : (N : ℕ) → N ≢ 0 → N ≢ 8 → (runRefusal c ≡ refused N L) ↔ (analyseRefusal c ≡ refused N L)

@@ -126,7 +126,7 @@ pub size-at : (c : Chain) (i : ℕ) → c .n ≤ 16 → i < c .n → getD (analy
 unfolding analysisOf
 size-at c i few l = slot-used (sizeOf c) noSize 16 (c .n) i noSize (omega arith) l
 
--- each number of a sound queue's line fits 32 bits, the margin with its sign
+-- how large minimum, naming count and capacity of a sound queue can be
 pub minimum-most : {q : Queue} → SoundRow q → minimumOf q ≤ 131069
 minimum-most {q} s = minimum-fits 0 (q .produce) (q .threshold) (q .consume) (s .threshold .0) (s .produce .0) (s .threshold .1) (s .produce .1)
 

@@ -7,7 +7,7 @@
 --   puts-length         a writer keeps the length
 --   puts-take           a copy, one byte more
 --   taken               the text stands at the front of what it was written to
--- "Stored" is the library's `sets`, to which a store past the end is none, so no law here asks for room.
+-- "Stored" is the library's `sets`, to which a store past the end is none, so only `put-front` and `taken` ask for room.
 use mathlib.Core.Path.{_≡_, refl, sym, ap, _∙_}
 use mathlib.Core.Logic.{_≢_}
 use mathlib.Core.List.{List, [], _∷_, _++_}

@@ -14,49 +14,38 @@ Inv-loop chain n analysis₀ x₀ y₀ busy₀ i₀ analysis x y busy i = Walked
 abbrev μ-loop : tie.MeasureT-loop
 μ-loop chain n analysis₀ x₀ y₀ busy₀ i₀ analysis x y busy i = n - i
 
--- src/lib.rt:95:13
 cast-n : tie.Need-cast-n Inv-loop μ-loop
 cast-n c = search needs
 
--- src/lib.rt:102:5
 loop-holds : tie.Need-loop-holds Inv-loop μ-loop
 loop-holds c = walk-none (c .args .t1) (c .pre)
 
--- src/lib.rt:103:17
 mul-q : tie.Need-mul-q Inv-loop μ-loop
 mul-q c = search needs
 
--- src/lib.rt:103:17
 element-copy-out-q : tie.Need-element-copy-out-q Inv-loop μ-loop
 element-copy-out-q c = search needs
 
--- src/lib.rt:104:13
 parted-requires : tie.Need-parted-requires Inv-loop μ-loop
 parted-requires c κs = c .before .before .before .pre .rows (c .before .before .loop .i) (c .before .loop-test .taken)
 
--- src/lib.rt:105:13
 rate-after-requires : tie.Need-rate-after-requires Inv-loop μ-loop
 rate-after-requires c κs =
     let l = c .before .before .before in
     walk-step (l .before .args .t1) (l .before .pre) (l .loop .inv) (c .before .before .loop-test .taken) (c .parted .ensures)
 
--- src/lib.rt:106:12
 is-too-large-requires : tie.Need-is-too-large-requires Inv-loop μ-loop
 is-too-large-requires c κs = search needs
 
--- src/lib.rt:107:32
 add-refused : tie.Need-add-refused Inv-loop μ-loop
 add-refused c = search needs
 
--- src/lib.rt:107:31
 cast-refused : tie.Need-cast-refused Inv-loop μ-loop
 cast-refused c = search needs
 
--- src/lib.rt:107:13
 refused-requires : tie.Need-refused-requires Inv-loop μ-loop
 refused-requires c κs = search needs
 
--- src/lib.rt:107:13
 returns : tie.Need-returns Inv-loop μ-loop
 returns c =
     let r = c .before .before .before in
@@ -64,29 +53,24 @@ returns c =
     let t = turn (r .before .before .before .loop-test .taken) (r .before .parted .ensures) (r .rate-after .ensures) in
     c .refused .ensures ∙ walk-too-large (l .before .args .t1) (l .before .pre) (l .loop .inv) t (sym (c .before .before .is-too-large .ensures) ∙ c .before .if1 .taken)
 
--- src/lib.rt:109:13
 cast-x : tie.Need-cast-x Inv-loop μ-loop
 cast-x c =
     let r = c .before .before .before .rate-after .result in
     let within = too-large-false (r .x) (r .y) .0 (sym (c .before .before .is-too-large .ensures) ∙ c .before .if1 .left) in
     omega (arith, within .0)
 
--- src/lib.rt:110:13
 cast-y : tie.Need-cast-y Inv-loop μ-loop
 cast-y c =
     let r = c .before .before .before .before .rate-after .result in
     let within = too-large-false (r .x) (r .y) .0 (sym (c .before .before .before .is-too-large .ensures) ∙ c .before .before .if1 .left) in
     omega (arith, within .1)
 
--- src/lib.rt:111:54
 mul-busy-after : tie.Need-mul-busy-after Inv-loop μ-loop
 mul-busy-after c = search needs
 
--- src/lib.rt:111:54
 element-copy-out-busy-after : tie.Need-element-copy-out-busy-after Inv-loop μ-loop
 element-copy-out-busy-after c = search needs
 
--- src/lib.rt:111:9
 busy-after-requires : tie.Need-busy-after-requires Inv-loop μ-loop
 busy-after-requires c κs =
     let r = c .before .before .before .before .before in
@@ -94,29 +78,23 @@ busy-after-requires c κs =
     let t = turn (r .before .before .before .loop-test .taken) (r .before .parted .ensures) (r .rate-after .ensures) in
     walk-small (l .before .args .t1) (l .before .pre) (l .loop .inv) t
 
--- src/lib.rt:112:30
 size-of-requires : tie.Need-size-of-requires Inv-loop μ-loop
 size-of-requires c κs =
     let q = c .before .before .before .before .before .before .before in
     record { sound = q .before .before .before .before .pre .rows (q .before .before .before .loop .i) (q .before .before .loop-test .taken); parts = q .parted .ensures }
 
--- src/lib.rt:112:9
 mul-t17 : tie.Need-mul-t17 Inv-loop μ-loop
 mul-t17 c = search needs
 
--- src/lib.rt:112:9
 element-set-from-analysis : tie.Need-element-set-from-analysis Inv-loop μ-loop
 element-set-from-analysis c = search needs
 
--- src/lib.rt:113:9
 add-i : tie.Need-add-i Inv-loop μ-loop
 add-i c = search needs
 
--- src/lib.rt:102:5
 loop-less : tie.Need-loop-less Inv-loop μ-loop
 loop-less c = search needs
 
--- src/lib.rt:102:5
 loop-again : tie.Need-loop-again Inv-loop μ-loop
 loop-again c =
     let r = c .before .before .before .before .before .before .before in
@@ -125,25 +103,20 @@ loop-again c =
     let within = sym (c .before .before .before .before .before .before .is-too-large .ensures) ∙ c .before .before .before .before .before .if1 .left in
     walk-more (l .before .args .t1) (l .before .pre) (l .loop .inv) t within (c .before .busy-after .ensures) (c .size-of .ensures)
 
--- src/lib.rt:115:9
 cast-if2 : tie.Need-cast-if2 Inv-loop μ-loop
 cast-if2 c = omega (arith, c .before .loop .inv .fits .1)
 
--- src/lib.rt:116:9
 refused-requires-2 : tie.Need-refused-requires-2 Inv-loop μ-loop
 refused-requires-2 c κs = search needs
 
--- src/lib.rt:116:9
 returns-2 : tie.Need-returns-2 Inv-loop μ-loop
 returns-2 c =
     let l = c .before .before .before in
     c .refused2 .ensures ∙ walk-over (l .before .args .t1) (l .before .pre) (l .loop .inv) (c .before .before .loop-test .left) (c .before .if2 .taken)
 
--- src/lib.rt:118:21
 cast-analysis : tie.Need-cast-analysis Inv-loop μ-loop
 cast-analysis c = omega (arith, c .before .before .loop .inv .fits .1, c .if2 .left)
 
--- src/lib.rt:91:1
 returns-3 : tie.Need-returns-3 Inv-loop μ-loop
 returns-3 c =
     let l = c .before .before in
