@@ -1,7 +1,7 @@
 -- Figures of gcd, each computed.
 --   prime-figure            the largest prime of 16 bits and a million
 --   wide-by-narrow-figure   a number of 48 bits and one of 16
---   slowest-figure          Fibonacci's numbers 92 and 93, which take Euclid's loop many turns
+--   slowest-figure          Fibonacci's numbers 92 and 93, which take Euclid's rule many turns
 --   right-zero-figure       b is 0
 --   left-zero-figure        a is 0
 use mathlib.Core.Path.{_≡_, refl}

@@ -4,3 +4,4 @@ pub mod Bezout
 pub mod Products
 pub mod Width
 pub mod Figures
+pub mod Binary
