@@ -2,7 +2,7 @@
 --   feed-figure, feed-named               Feed's queue, and Permeate's first, (4,7,3): b 10, naming count 4
 --   permeate-figure, permeate-named       Permeate's second queue, (3,4,2): b 6, naming count 3
 --   flush-figure, flush-named             Flush's first queue, (16,64,16): b 64, naming count 4
---   rinse-figure, rinse-named             Flush's second queue, (1,8,8): b 8, naming count 8
+--   flush-second-figure, -named           Flush's second queue, (1,8,8): b 8, naming count 8
 --   corner-figure, azimuth-figure         000's Example 1: Corner Turn and Azimuth FFT, both 128 · 256
 --   started-figure                        a queue that starts with 1 token, (4,4,2): it holds 3 before the last production, and b is 7
 --   most-figure                           the largest b that the ranges allow
@@ -36,13 +36,13 @@ pub flush-named : naming 0 16 64 16 ≡ 4
 unfolding naming
 flush-named = refl
 
-pub rinse-figure : minimum 0 1 8 8 ≡ 8
+pub flush-second-figure : minimum 0 1 8 8 ≡ 8
 unfolding minimum
-rinse-figure = refl
+flush-second-figure = refl
 
-pub rinse-named : naming 0 1 8 8 ≡ 8
+pub flush-second-named : naming 0 1 8 8 ≡ 8
 unfolding naming
-rinse-named = refl
+flush-second-named = refl
 
 pub corner-figure : minimum 0 256 32768 16384 ≡ 32768
 unfolding minimum

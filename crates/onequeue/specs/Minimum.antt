@@ -3,7 +3,7 @@
 --   minimum s p τ c     the largest content below τ, plus p
 --   minimum-is          it is r + p for the r that `Largest` describes, so it is the only such number
 --   minimum-produce, -threshold, -bound, -fits
---                       it is at least p and at least τ, less than τ + p, and so at most 131,069
+--                       it is at least p and at least τ, less than τ + p, and so at most 131,069 in 01's ranges
 --   minimum-rest        it is computed with one remainder
 --   naming s p τ c      the naming count: so many firings of the producer show b
 --   Reaches s p τ c q   q firings of the producer, and no fewer, bring the contents from s to τ - c; naming-reaches: there is such a q

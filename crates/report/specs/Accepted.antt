@@ -10,14 +10,13 @@ use Prim.Native.Nat.{ℕ, _≤_}
 use native.Mathlib.Omega.{arith}
 use lib.ListN.{length, drop}
 use Rattle.chain.specs.Tests.{below-false}
-use Rattle.chain.specs.Refusals.{fine, Silent, Silents, silent-as, first-fine, first-silent, or-silents, test-silent}
+use Rattle.chain.specs.Refusals.{fine, Silent, silent-as, first-fine, or-silents, test-silent}
 use Rattle.chainfile.specs.File.{chainOf}
 use Rattle.chainfile.specs.Accepted.{AcceptedFile, read-accepts}
 use Rattle.chainfile.specs.Packed.{written, roomCheck, Output, output-fine}
 use Rattle.chainfile.specs.declared.LengthAnswer.{LengthAnswer}
 use Rattle.sizing.specs.Sizes.{analysisOf}
-use Rattle.sizing.specs.Checks.{sizeChecks, rates-silent, load-silent}
-use Rattle.sizing.specs.Accepted.{Accepted}
+use Rattle.sizing.specs.Accepted.{Accepted, size-accepts}
 use Rattle.reporttext.specs.Heading.{headed, report-headed}
 use Rattle.report.specs.Checks.{reportText, reportChecks, sizeRefusal, reportRefusal, report-parts}
 
@@ -26,20 +25,19 @@ module _ (f : List ℕ) (room : ℕ) where
   fits = Iff·trans (test-silent 10 _ (λ e. omega arith) _) (below-false room (length (reportText f)))
 
   pub report-accepts : Silent (reportRefusal f room) ↔ (AcceptedFile f × (Accepted (chainOf f) × (length (reportText f) ≤ room)))
-  unfolding sizeRefusal Silents
+  unfolding sizeRefusal
   report-accepts = (out, back)
     where
       out : Silent (reportRefusal f room) → AcceptedFile f × (Accepted (chainOf f) × (length (reportText f) ≤ room))
       out z =
           let parts = or-silents _ _ .0 (silent-as (report-parts f room) z) in
           let rest = or-silents _ _ .0 (parts .1) in
-          let own = first-silent (sizeChecks (chainOf f)) .0 (rest .0) in
           let file = read-accepts f .0 (parts .0) in
-          (file, (record { chain = file .chain; rates = rates-silent (chainOf f) .0 (own .0); load = load-silent (chainOf f) .0 (own .1 .0) }, fits .0 (rest .1)))
+          (file, (size-accepts (chainOf f) .0 (file .chain, rest .0), fits .0 (rest .1)))
 
       back : AcceptedFile f × (Accepted (chainOf f) × (length (reportText f) ≤ room)) → Silent (reportRefusal f room)
       back h =
-          let own = first-silent (sizeChecks (chainOf f)) .1 (rates-silent (chainOf f) .1 (h .1 .0 .rates), (load-silent (chainOf f) .1 (h .1 .0 .load), tt)) in
+          let own = size-accepts (chainOf f) .1 (h .1 .0) .1 in
           silent-as (sym (report-parts f room)) (or-silents _ _ .1 (read-accepts f .1 (h .0), or-silents _ _ .1 (own, fits .1 (h .1 .1))))
 
   pub report-fine : Silent (reportRefusal f room) → reportRefusal f room ≡ fine

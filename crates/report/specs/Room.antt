@@ -16,8 +16,8 @@ use Rattle.chain.specs.declared.Refusal.{Refusal}
 use Rattle.chainfile.specs.File.{chainOf, readChecks, readRefusal}
 use Rattle.chainfile.specs.Accepted.{read-accepts}
 use Rattle.chainfile.specs.Packed.{roomCheck}
-use Rattle.sizing.specs.Checks.{sizeChecks, rates-silent, load-silent}
-use Rattle.sizing.specs.Accepted.{Accepted}
+use Rattle.sizing.specs.Checks.{sizeChecks}
+use Rattle.sizing.specs.Accepted.{size-accepts}
 use Rattle.reporttext.specs.Refused.{refusalText, longestRefusal, refusal-short}
 use Rattle.reporttext.specs.Short.{longestReport, report-short}
 use Rattle.report.specs.Checks.{reportText, reportRefusal, sizeRefusal, report-parts, report-10}
@@ -28,8 +28,7 @@ report-room f room L l e =
     let t = report-10 f room L .0 e in
     let h = t .0 in
     let file = read-accepts f .0 (first-silent (readChecks f) .1 (h .0, (h .1 .0, (h .1 .1 .0, (h .1 .1 .1 .0, (h .1 .1 .1 .1 .0, tt)))))) in
-    let own = h .1 .1 .1 .1 .1 in
-    let accepted : Accepted (chainOf f) = record { chain = file .chain; rates = rates-silent (chainOf f) .0 (own .0); load = load-silent (chainOf f) .0 (own .1 .0) } in
+    let accepted = size-accepts (chainOf f) .0 (file .chain, first-silent (sizeChecks (chainOf f)) .1 (h .1 .1 .1 .1 .1)) in
     omega (arith, report-short (chainOf f) accepted, t .1)
 
 pub refusal-room : (N L room : ℕ) → N < 2 ^ 32 → L < 2 ^ 32 → longestRefusal ≤ room → roomCheck (length (refusalText N L)) room ≡ fine
@@ -44,10 +43,9 @@ fileRefusal f = orElse (readRefusal f) (sizeRefusal f)
 module _ (f : List ℕ) (room : ℕ) (l : longestReport ≤ room) where
   -- a file that 1 to 7 pass has a report that fits
   passes : Silent (readRefusal f) → Silent (sizeRefusal f) → roomCheck (length (reportText f)) room ≡ fine
-  unfolding sizeRefusal Silents
+  unfolding sizeRefusal
   passes r z =
-      let own = first-silent (sizeChecks (chainOf f)) .0 z in
-      let accepted : Accepted (chainOf f) = record { chain = read-accepts f .0 r .chain; rates = rates-silent (chainOf f) .0 (own .0); load = load-silent (chainOf f) .0 (own .1 .0) } in
+      let accepted = size-accepts (chainOf f) .0 (read-accepts f .0 r .chain, z) in
       let fits : length (reportText f) ≤ room = omega (arith, report-short (chainOf f) accepted) in
       simp (le-ltb _ _ fits)
 

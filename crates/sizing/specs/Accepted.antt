@@ -1,5 +1,6 @@
 -- What a chain that the analysis accepts is, and that each of its numbers fits its width.
 --   Accepted c               sound, no rate above the limit, not overloaded: 01's accepted chain
+--   size-accepts             a sound chain is accepted exactly when 6 and 7 are silent
 --   analyse-accepts          a chain is not refused exactly when it is accepted
 --   run-accepts              and a run does not refuse it exactly when each of its capacities is enough, too
 --   SizeFits q, size-fits    the numbers of a queue's line: x and y up to the limit, minimum up to 131,069, naming count up to
@@ -7,14 +8,15 @@
 --   busy-fits, cycle-fits    the load
 use mathlib.Core.Path.{_≡_, refl, sym}
 use mathlib.Core.Bool.{Bool, true, false, cond}
-use mathlib.Core.Logic.{_↔_, Iff·trans, Iff·and}
+use mathlib.Core.Logic.{_↔_, Iff·trans, Iff·and, Iff·rfl}
 use Prim.Native.Nat.{ℕ, zero, suc, _-_, _≤_, _<_}
 use native.Mathlib.Nat.{le-trans}
 use native.Mathlib.Omega.{arith}
 use lib.Dec.{ltb}
 use borrow.Author.Tests.{ltb-true}
 use lib.IntN.{pos, negsuc, natAbs}
-use Rattle.chain.specs.Refusals.{Silent, Silents, silent-as, first-silent, or-silents}
+use Rattle.chain.specs.Refusals.{first, Silent, Silents, silent-as, first-silent, or-silents}
+use Rattle.chain.specs.Checks.{chainRefusal}
 use Rattle.chain.specs.Sound.{Sound, sound}
 use Rattle.chain.specs.declared.Chain.{Chain}
 use Rattle.onequeue.specs.Capacity.{margin}
@@ -30,20 +32,20 @@ pub record Accepted (c : Chain) : Type 0 where
   pub rates : (i : ℕ) → i < c .n → InLimit c (suc i)
   pub load : busyOf c ≤ cycleOf c
 
-pub analyse-accepts : (c : Chain) → Silent (analyseRefusal c) ↔ Accepted c
+-- a chain that 2, 4 and 5 pass is accepted exactly when 6 and 7 pass it too
+pub size-accepts : (c : Chain) → (Sound c × Silent (first (sizeChecks c))) ↔ Accepted c
 unfolding Silents
-analyse-accepts c = (out, back)
+size-accepts c = (out, λ a. (a .chain, first-silent (sizeChecks c) .1 (rates-silent c .1 (a .rates), (load-silent c .1 (a .load), tt))))
   where
-    out : Silent (analyseRefusal c) → Accepted c
-    out z =
-        let parts = or-silents _ _ .0 (silent-as (analyse-parts c) z) in
-        let own = first-silent (sizeChecks c) .0 (parts .1) in
-        record { chain = sound c .0 (parts .0); rates = rates-silent c .0 (own .0); load = load-silent c .0 (own .1 .0) }
+    out : Sound c × Silent (first (sizeChecks c)) → Accepted c
+    out h =
+        let own = first-silent (sizeChecks c) .0 (h .1) in
+        record { chain = h .0; rates = rates-silent c .0 (own .0); load = load-silent c .0 (own .1 .0) }
 
-    back : Accepted c → Silent (analyseRefusal c)
-    back a =
-        let own = first-silent (sizeChecks c) .1 (rates-silent c .1 (a .rates), (load-silent c .1 (a .load), tt)) in
-        silent-as (sym (analyse-parts c)) (or-silents _ _ .1 (sound c .1 (a .chain), own))
+pub analyse-accepts : (c : Chain) → Silent (analyseRefusal c) ↔ Accepted c
+analyse-accepts c =
+    Iff·trans (silent-as (analyse-parts c), silent-as (sym (analyse-parts c)))
+    (Iff·trans (or-silents (chainRefusal c) (first (sizeChecks c))) (Iff·trans (Iff·and (sound c) Iff·rfl) (size-accepts c)))
 
 pub run-accepts : (c : Chain) → Silent (runRefusal c) ↔ (Accepted c × ((i : ℕ) → i < c .n → Enough c i))
 run-accepts c =
