@@ -1,7 +1,7 @@
 -- Tests on numbers, and the facts that they decide.
 --   outside least most v     v is below the least or above the most
 --   Out, In                  the two facts: out of the range, in it
---   outside-, below-, upto-, equal-, differ-, or-, and-true and -false
+--   outside-, below-, upto-, equal-, differ-, or-, and-, negated-true and -false
 --                            the test holds, or fails, exactly under the fact named beside it
 --   sum-iff                  facts that hold exactly under others, of which one holds
 use mathlib.Core.Path.{_≡_, refl, sym}
@@ -9,7 +9,7 @@ use mathlib.Core.Bool.{Bool, true, false, _||_, _&&_, not, true≢false}
 use mathlib.Core.Logic.{_↔_, _≢_, _⊎_, inl, inr, ⊎-elim}
 use Prim.Native.Nat.{ℕ, _≤_, _<_}
 use lib.Dec.{ltb, leb, eqb}
-use borrow.Author.Tests.{lt-ltb, le-ltb, le-leb, ltb-true, ltb-false, leb-true, eq-eqb, ne-eqb, eqb-true, eqb-false, not-true, not-false}
+use borrow.Author.Tests.{lt-ltb, le-ltb, le-leb, ltb-true, ltb-false, lt-leb, leb-true, leb-false, eq-eqb, ne-eqb, eqb-true, eqb-false, not-true, not-false}
 
 -- v is below the least or above the most
 abbrev pub outside : ℕ → ℕ → ℕ → Bool
@@ -47,6 +47,9 @@ equal-true a b = (λ e. eqb-true a b e, λ n. eq-eqb a b n)
 pub upto-true : (a b : ℕ) → (leb a b ≡ true) ↔ (a ≤ b)
 upto-true a b = (λ e. leb-true a b e, λ l. le-leb a b l)
 
+pub upto-false : (a b : ℕ) → (leb a b ≡ false) ↔ (b < a)
+upto-false a b = (λ e. leb-false a b e, λ l. lt-leb a b l)
+
 pub below-true : (a b : ℕ) → (ltb a b ≡ true) ↔ (a < b)
 below-true a b = (λ e. ltb-true a b e, λ l. lt-ltb a b l)
 
@@ -60,6 +63,15 @@ and-true {a = false} h k = (λ e. absurd (true≢false (sym e)), λ s. absurd (t
 pub and-false : {A B : Type 0} {a b : Bool} → (a ≡ false) ↔ A → (b ≡ false) ↔ B → (a && b ≡ false) ↔ (A ⊎ B)
 and-false {a = true} h k = (λ e. inr (k .0 e), ⊎-elim (λ x. absurd (true≢false (h .1 x))) (λ y. k .1 y))
 and-false {a = false} h k = (λ e. inl (h .0 refl), λ s. refl)
+
+-- the opposite of a test holds exactly when its fact does not
+pub negated-true : {A : Type 0} {a : Bool} → (a ≡ true) ↔ A → (not a ≡ true) ↔ (A → ⊥)
+negated-true {a = true} h = (λ e. absurd (true≢false (sym e)), λ n. absurd (n (h .0 refl)))
+negated-true {a = false} h = (λ e x. true≢false (sym (h .1 x)), λ n. refl)
+
+pub negated-false : {A : Type 0} {a : Bool} → (a ≡ true) ↔ A → (not a ≡ false) ↔ A
+negated-false {a = true} h = (λ e. h .0 refl, λ x. refl)
+negated-false {a = false} h = (λ e. absurd (true≢false e), λ x. absurd (true≢false (sym (h .1 x))))
 
 pub outside-true : (least most v : ℕ) → (outside least most v ≡ true) ↔ Out least most v
 outside-true least most v = or-true (below-true v least) (below-true most v)

@@ -1,0 +1,134 @@
+-- Manual firing (01, Firing), and what a call that gives a state answers.
+--   freshAnswer c              the answer of a fresh start: 2, 4, 5, 6, 7, then the empty state
+--   nodeChecks c s i           9, 11 and 12: the checks of a firing of N_i in a state that 17 has passed
+--   fireChecks c s i           the checks of manual firing, in order, never 8
+--   fireRefusal c s i, fireAnswer c s i
+--                              what a firing is refused with, and the whole answer: the state as it was, or after the firing
+--   fire-parts                 the checks of the analysis, then 17, then 9, 11 and 12
+--   fire-earlier               2, 4, 5, 6 and 7 are said exactly when the analysis says them
+--   fire-17, fire-9, fire-11, fire-12
+--                              when a firing is refused with each number of its own
+--   fire-accepts               it is not refused exactly when the chain is accepted, the state passes 17 and the firing may be
+--   fire-accepted, fire-refused
+--                              the state that it gives back
+use mathlib.Core.Path.{_≡_, refl, sym, ap, _∙_}
+use mathlib.Core.Logic.{_↔_, _≢_, _⊎_, inl, ⊎-elim, Iff·trans, Iff·and, Iff·rfl}
+use mathlib.Core.List.{List, [], _∷_, _++_}
+use Prim.Native.Nat.{ℕ, suc, _+_, _*_, _≤_, _<_}
+use native.Mathlib.Omega.{arith}
+use lib.ListN.{getD, take}
+use borrow.Author.Tests.{eq-eqb, ne-eqb}
+use Rattle.words.specs.Table.{tab}
+use Rattle.chain.specs.Refusals.{refused, fine, first, orElse, first-append, Silent, Silents, number-of, or-says, or-silents, silent-as, first-silent, Numbered, exact-at, Only}
+use Rattle.chain.specs.Record.{rowOf}
+use Rattle.chain.specs.Checks.{rangeCheck, orderCheck, count-only, range-only, order-only}
+use Rattle.chain.specs.declared.Refusal.{Refusal}
+use Rattle.chain.specs.declared.Chain.{Chain}
+use Rattle.sizing.specs.Load.{busyIn}
+use Rattle.sizing.specs.Sizes.{capacityOf}
+use Rattle.sizing.specs.Checks.{limit, analyseChecks, analyseRefusal, rateCheck, rate-only, load-only}
+use Rattle.sizing.specs.Accepted.{Accepted, analyse-accepts}
+use Rattle.state.specs.State.{countAt, heldAt, emptyRun, freshRun, answered, answered-refused, answered-fine}
+use Rattle.state.specs.Fired.{fired, Over, Room, May}
+use Rattle.state.specs.Checks as own
+use Rattle.state.specs.Checks.{stateCheck, countCheck, overCheck, cramped, roomCheck, FirstBroken, StateSound, state-exact, over-exact, room-exact, state-silent, over-silent, room-silent, state-only, over-only, room-only}
+use Rattle.state.specs.declared.Run.{Run}
+use Rattle.state.specs.declared.RunAnswer.{RunAnswer}
+
+-- "a fresh start begins a new history"
+unfoldable pub freshAnswer : Chain → RunAnswer
+unfolding analyseRefusal answered freshRun
+freshAnswer c = answered (analyseRefusal c) emptyRun (freshRun c)
+
+-- "answers 11, then 12; 9 tested before 11 and 12"
+abbrev pub nodeChecks : Chain → Run → ℕ → List Refusal
+nodeChecks c s i = countCheck c s i ∷ overCheck c s i ∷ roomCheck c s i ∷ []
+
+-- "manual firing, runs and deadline questions check the analysis first, then their own numbers; every call that is handed a run state checks 17", which is
+-- "tested after 8 and before 9"; 8 is of "runs and deadlines only"
+abbrev pub fireChecks : Chain → Run → ℕ → List Refusal
+fireChecks c s i = analyseChecks c ++ (stateCheck c s ∷ nodeChecks c s i)
+
+unfoldable pub fireRefusal : Chain → Run → ℕ → Refusal
+unfolding first rangeCheck orderCheck rateCheck busyIn stateCheck cramped
+fireRefusal c s i = first (fireChecks c s i)
+
+-- "each step hands the whole run state back"
+unfoldable pub fireAnswer : Chain → Run → ℕ → RunAnswer
+unfolding fireRefusal answered fired
+fireAnswer c s i = answered (fireRefusal c s i) s (fired c s i)
+
+module _ (c : Chain) (s : Run) (i : ℕ) where
+  pub fire-parts : fireRefusal c s i ≡ orElse (analyseRefusal c) (orElse (stateCheck c s) (first (nodeChecks c s i)))
+  unfolding fireRefusal analyseRefusal first
+  fire-parts = first-append (analyseChecks c) (stateCheck c s ∷ nodeChecks c s i)
+
+  -- a firing is not refused exactly when the chain is accepted, the state passes 17, and the firing is one that may be
+  pub fire-accepts : Silent (fireRefusal c s i) ↔ (Accepted c × (StateSound c s × May c s i))
+  unfolding Silents
+  fire-accepts =
+      Iff·trans (silent-as fire-parts, silent-as (sym fire-parts))
+      (Iff·trans (or-silents _ _) (Iff·and (analyse-accepts c) (Iff·trans (or-silents _ _) (Iff·and (state-silent c s) (Iff·trans (first-silent (nodeChecks c s i)) (out, back))))))
+    where
+      out : Silents (nodeChecks c s i) → May c s i
+      out h =
+          let o = over-silent c s i .0 (h .1 .0) in
+          record { node = o .0; countable = own.count-silent c s i (o .0) .0 (h .0); over = o .1; room = room-silent c s i .0 (h .1 .1 .0) }
+
+      back : May c s i → Silents (nodeChecks c s i)
+      back m = (own.count-silent c s i (m .node) .1 (m .countable), (over-silent c s i .1 (m .node, m .over), (room-silent c s i .1 (m .room), tt)))
+
+  -- what a firing gives back: the state after it, or the state as it was
+  pub fire-accepted : Silent (fireRefusal c s i) → fireAnswer c s i .run ≡ fired c s i
+  unfolding fireAnswer answered
+  fire-accepted z = simp (eq-eqb _ _ z)
+
+  pub fire-refused : (Silent (fireRefusal c s i) → ⊥) → fireAnswer c s i .run ≡ s
+  unfolding fireAnswer answered
+  fire-refused n = simp (ne-eqb _ _ n)
+
+-- a firing is refused with a number exactly when no earlier check speaks and the number's own condition holds
+module _ (c : Chain) (s : Run) (i L : ℕ) where
+  order : List ℕ
+  order = 2 ∷ 4 ∷ 5 ∷ 6 ∷ 7 ∷ 17 ∷ 9 ∷ 11 ∷ 12 ∷ []
+
+  each : Numbered order (fireChecks c s i)
+  unfolding Numbered order
+  each = (count-only (c .n), (range-only c 20 (20 + 20 * c .n), (order-only c 20, (rate-only c, (load-only c, (state-only c s, (own.count-only c s i, (over-only c s i, (room-only c s i, tt)))))))))
+
+  fire-at : (k : ℕ) → k < 9 → (fireRefusal c s i ≡ refused (getD order k 0) L) ↔ (Silents (take k (fireChecks c s i)) × (getD (fireChecks c s i) k fine ≡ refused (getD order k 0) L))
+  unfolding fireRefusal order
+  fire-at k l = exact-at order (fireChecks c s i) each tt k L l
+
+  pub fire-17 : (fireRefusal c s i ≡ refused 17 L) ↔ (Silents (analyseChecks c) × FirstBroken c s L)
+  unfolding order
+  fire-17 = Iff·trans (fire-at 5 (omega arith)) (Iff·and Iff·rfl (state-exact c s L))
+
+  pub fire-9 : (fireRefusal c s i ≡ refused 9 L) ↔ (Silents (analyseChecks c ++ (stateCheck c s ∷ [])) × (((i ≤ c .n) × (countAt s i ≡ limit)) × (L ≡ i)))
+  unfolding order
+  fire-9 = Iff·trans (fire-at 6 (omega arith)) (Iff·and Iff·rfl (own.count-exact c s i L))
+
+  pub fire-11 : (fireRefusal c s i ≡ refused 11 L) ↔ (Silents (analyseChecks c ++ (stateCheck c s ∷ countCheck c s i ∷ [])) × (((c .n < i) ⊎ (Over c s i → ⊥)) × (L ≡ i)))
+  unfolding order
+  fire-11 = Iff·trans (fire-at 7 (omega arith)) (Iff·and Iff·rfl (over-exact c s i L))
+
+  pub fire-12 : (fireRefusal c s i ≡ refused 12 L) ↔ (Silents (analyseChecks c ++ (stateCheck c s ∷ countCheck c s i ∷ overCheck c s i ∷ [])) × (((i < c .n) × (capacityOf (rowOf c i) < heldAt s i + rowOf c i .produce)) × (L ≡ i)))
+  unfolding order
+  fire-12 = Iff·trans (fire-at 8 (omega arith)) (Iff·and Iff·rfl (room-exact c s i L))
+
+  -- what the analysis says stands, and nothing else has its numbers
+  pub fire-earlier : (N : ℕ) → N ≢ 0 → N < 9 → (fireRefusal c s i ≡ refused N L) ↔ (analyseRefusal c ≡ refused N L)
+  unfolding first
+  fire-earlier N some low = rw (fire-parts c s i) (Iff·trans (or-says N L some (analyseRefusal c) _) (⊎-elim (λ e. e) late, inl))
+    where
+      skip : (M : ℕ) (r t : Refusal) → Only M r → 9 ≤ M → orElse r t ≡ refused N L → t ≡ refused N L
+      skip M r t only high e = ⊎-elim
+          (λ f. let same : N ≡ M = sym (number-of f) ∙ only (λ z. some (sym (number-of f) ∙ z)) in absurd (omega arith))
+          (λ h. h .1)
+          (or-says N L some r t .0 e)
+
+      late : Silent (analyseRefusal c) × (orElse (stateCheck c s) (first (nodeChecks c s i)) ≡ refused N L) → analyseRefusal c ≡ refused N L
+      late h =
+          let node = skip 17 (stateCheck c s) _ (state-only c s) (omega arith) (h .1) in
+          let none = skip 12 (roomCheck c s i) fine (room-only c s i) (omega arith) (skip 11 (overCheck c s i) _ (over-only c s i) (omega arith) (skip 9 (countCheck c s i) _ (own.count-only c s i) (omega arith) node)) in
+          absurd (some (sym (number-of none)))

@@ -1,0 +1,5 @@
+pub mod State
+pub mod Fired
+pub mod Checks
+pub mod Fire
+pub mod Past
