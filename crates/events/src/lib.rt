@@ -1,0 +1,1 @@
+// The laws of one queue over its events, in specs/: no code, plain numbers and lists.
