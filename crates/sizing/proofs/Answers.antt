@@ -1,14 +1,15 @@
 -- The answers of the analysis and of a chain that is to be run, as their code puts them together.
 use mathlib.Core.Path.{_≡_, refl, sym, ap, _∙_}
+use Prim.Native.Nat.{_≤_}
 use Rattle.words.specs.Table.{tab}
 use Rattle.chain.specs.Refusals.{fine, first, Silent, silent-as, first-fine, or-left, or-right, or-silents}
 use Rattle.chain.specs.Checks.{chainRefusal}
-use Rattle.chain.specs.Sound.{Sound, sound}
 use Rattle.chain.specs.Faults.{Few}
 use Rattle.chain.specs.declared.Refusal.{Refusal}
 use Rattle.chain.specs.declared.Chain.{Chain}
 use Rattle.sizing.specs.Sizes.{analysisOf, sized, sized-refused, sized-fine, refusedWith}
 use Rattle.sizing.specs.Checks.{sizeChecks, analyseChecks, analyseRefusal, analyseAnswer, capacityTest, capacityCheck, runAnswer, shortIn, short-is-capacity, analyse-parts, run-parts}
+use Rattle.sizing.specs.Accepted.{analysed}
 use Rattle.sizing.specs.declared.AnalysisAnswer.{AnalysisAnswer}
 
 module _ (c : Chain) where
@@ -21,7 +22,7 @@ module _ (c : Chain) where
   unfolding analyseAnswer
   analyse-sized e z = ap (λ (f : Refusal). sized f c) (or-right e z refl ∙ sym (analyse-parts c))
 
-  -- an analysis that was not refused: the chain is sound, and this is its whole analysis
+  -- an analysis that was given
   module _ {a : AnalysisAnswer} (e : a ≡ analyseAnswer c) where
     number-is : a .number ≡ analyseRefusal c .number
     unfolding analyseAnswer sized
@@ -36,23 +37,18 @@ module _ (c : Chain) where
       accepted : Silent (analyseRefusal c)
       accepted = sym number-is ∙ z
 
-      quiet : fine ≡ analyseRefusal c
-      unfolding analyseRefusal
-      quiet = sym (first-fine (analyseChecks c) accepted)
-
-      sound-chain : Sound c
-      sound-chain = sound c .0 (or-silents _ _ .0 (silent-as (analyse-parts c) accepted) .0)
+      few : c .n ≤ 16
+      few = analysed c e z .0 .chain .count .1
 
       whole : a ≡ record { number = 0; place = 0; analysis = analysisOf c }
-      unfolding analyseAnswer
-      whole = e ∙ sym (sized-fine c quiet)
+      whole = analysed c e z .1
 
       pub run-few : Few (a .analysis .n)
       unfolding analysisOf
-      run-few = record { few = rw (ap (λ (b : AnalysisAnswer). b .analysis .n) whole) (sound-chain .count .1) }
+      run-few = record { few = rw (ap (λ (b : AnalysisAnswer). b .analysis .n) whole) few }
 
       short-same : {r : Refusal} → r ≡ shortIn (a .analysis) → r ≡ capacityCheck c
-      short-same f = f ∙ ap (λ (b : AnalysisAnswer). shortIn (b .analysis)) whole ∙ short-is-capacity c (sound-chain .count .1)
+      short-same f = f ∙ ap (λ (b : AnalysisAnswer). shortIn (b .analysis)) whole ∙ short-is-capacity c few
 
       -- the way out at 8, and the last one
       pub run-short : {r : Refusal} → r ≡ shortIn (a .analysis) → (Silent r → ⊥) → refusedWith (r .number) (r .place) ≡ runAnswer c

@@ -2,11 +2,12 @@
 --   Accepted c               sound, no rate above the limit, not overloaded: 01's accepted chain
 --   size-accepts             a sound chain is accepted exactly when 6 and 7 are silent
 --   analyse-accepts          a chain is not refused exactly when it is accepted
+--   analysed                 the same of an answer that code was given
 --   run-accepts              and a run does not refuse it exactly when each of its capacities is enough, too
 --   SizeFits q, size-fits    the numbers of a queue's line: x and y up to the limit, minimum up to 131,069, naming count up to
 --                            65,535, capacity up to 1,000,000, and the margin between minus and plus a million
 --   busy-fits, cycle-fits    the load
-use mathlib.Core.Path.{_≡_, refl, sym}
+use mathlib.Core.Path.{_≡_, refl, sym, ap, _∙_}
 use mathlib.Core.Bool.{Bool, true, false, cond}
 use mathlib.Core.Logic.{_↔_, Iff·trans, Iff·and, Iff·rfl}
 use Prim.Native.Nat.{ℕ, zero, suc, _-_, _≤_, _<_}
@@ -15,16 +16,17 @@ use native.Mathlib.Omega.{arith}
 use lib.Dec.{ltb}
 use borrow.Author.Tests.{ltb-true}
 use lib.IntN.{pos, negsuc, natAbs}
-use Rattle.chain.specs.Refusals.{first, Silent, Silents, silent-as, first-silent, or-silents}
+use Rattle.chain.specs.Refusals.{first, Silent, Silents, silent-as, first-silent, first-fine, or-silents}
 use Rattle.chain.specs.Checks.{chainRefusal}
 use Rattle.chain.specs.Sound.{Sound, sound}
 use Rattle.chain.specs.declared.Chain.{Chain}
 use Rattle.onequeue.specs.Capacity.{margin}
 use Rattle.sizing.specs.Nodes.{yOf}
 use Rattle.sizing.specs.Load.{busyOf, cycleOf}
-use Rattle.sizing.specs.Sizes.{sizeBy, sizeOf, minimum-most, naming-most, capacity-most}
-use Rattle.sizing.specs.Checks.{limit, InLimit, Enough, sizeChecks, analyseRefusal, runRefusal, capacityCheck, analyse-parts, run-parts, rates-silent, load-silent, capacity-silent}
+use Rattle.sizing.specs.Sizes.{sizeBy, sizeOf, analysisOf, sized, sized-fine, minimum-most, naming-most, capacity-most}
+use Rattle.sizing.specs.Checks.{limit, InLimit, Enough, sizeChecks, analyseChecks, analyseRefusal, analyseAnswer, runRefusal, capacityCheck, analyse-parts, run-parts, rates-silent, load-silent, capacity-silent}
 use Rattle.sizing.specs.declared.QueueSize.{QueueSize}
+use Rattle.sizing.specs.declared.AnalysisAnswer.{AnalysisAnswer}
 
 -- "a chain it doesn't refuse is accepted"
 pub record Accepted (c : Chain) : Type 0 where
@@ -46,6 +48,13 @@ pub analyse-accepts : (c : Chain) → Silent (analyseRefusal c) ↔ Accepted c
 analyse-accepts c =
     Iff·trans (silent-as (analyse-parts c), silent-as (sym (analyse-parts c)))
     (Iff·trans (or-silents (chainRefusal c) (first (sizeChecks c))) (Iff·trans (Iff·and (sound c) Iff·rfl) (size-accepts c)))
+
+-- the answer that code was given, where it is not refused: the chain is accepted, and this is its analysis
+pub analysed : {a : AnalysisAnswer} (c : Chain) → a ≡ analyseAnswer c → a .number ≡ 0 → Accepted c × (a ≡ record { number = 0; place = 0; analysis = analysisOf c })
+unfolding analyseAnswer analyseRefusal sized
+analysed c e z =
+    let quiet : Silent (analyseRefusal c) = sym (ap (λ (b : AnalysisAnswer). b .number) e) ∙ z in
+    (analyse-accepts c .0 quiet, e ∙ sym (sized-fine c (sym (first-fine (analyseChecks c) quiet))))
 
 pub run-accepts : (c : Chain) → Silent (runRefusal c) ↔ (Accepted c × ((i : ℕ) → i < c .n → Enough c i))
 run-accepts c =

@@ -19,13 +19,14 @@
 --                              and is silent exactly elsewhere
 --   state-, count-, over-, room-only
 --                              and speaks with its own number
-use mathlib.Core.Path.{_≡_, refl, _∙_}
+use mathlib.Core.Path.{_≡_, refl, ap, _∙_}
 use mathlib.Core.Bool.{Bool, true, false, not, _||_, _&&_}
 use mathlib.Core.Logic.{_↔_, _≢_, _⊎_, inl, inr, ⊎-elim, by-cases, Iff·trans, Iff·and, Iff·rfl}
 use Prim.Native.Nat.{ℕ, zero, suc, _+_, _*_, _≤_, _<_}
 use native.Mathlib.Omega.{arith}
 use native.Mathlib.Decide.{decLt}
 use lib.Dec.{ltb, leb, eqb}
+use lib.ListN.{getD}
 use borrow.Author.Tests.{eqb-false, ne-eqb}
 use Rattle.words.specs.Table.{tab}
 use Rattle.words.specs.declared.Queue.{Queue}
@@ -36,7 +37,10 @@ use Rattle.chain.specs.declared.Refusal.{Refusal}
 use Rattle.chain.specs.declared.Chain.{Chain}
 use Rattle.onequeue.specs.Capacity.{capacity}
 use Rattle.onequeue.specs.Minimum.{minimum}
-use Rattle.sizing.specs.Sizes.{start, capacityOf}
+use Rattle.chain.specs.Sound.{Sound, SoundRow}
+use Rattle.sizing.specs.Sizes.{start, capacityOf, noSize, sizeBy, analysisOf, size-at}
+use Rattle.sizing.specs.declared.QueueSize.{QueueSize}
+use Rattle.sizing.specs.declared.Analysis.{Analysis}
 use Rattle.sizing.specs.Checks.{limit}
 use Rattle.state.specs.State.{countAt, heldAt, doneAt}
 use Rattle.state.specs.Fired.{Balance, Over, Room}
@@ -174,3 +178,26 @@ module _ (c : Chain) (s : Run) where
 
   pub room-only : (i : ℕ) → Only 12 (roomCheck c s i)
   room-only i = only-test 12 i (cramped c s i)
+
+-- what the code of these checks is handed: an accepted chain and its analysis
+pub record Analysed (c : Chain) (a : Analysis) : Type 0 where
+  pub chain : Sound c
+  pub sizes : a ≡ analysisOf c
+
+-- a sound queue and its capacity in force
+pub record Ruled (q : Queue) (k : ℕ) : Type 0 where
+  pub sound : SoundRow q
+  pub capacity : k ≡ capacityOf q
+
+-- a node of a sound chain
+pub record Node (c : Chain) (i : ℕ) : Type 0 where
+  pub chain : Sound c
+  pub node : i ≤ c .n
+
+-- the capacity that the analysis has of queue i is the one in force
+pub ruled : {c : Chain} {a : Analysis} → Analysed c a → (i : ℕ) → i < c .n → Ruled (rowOf c i) (getD (a .queues) i noSize .capacity)
+unfolding sizeBy
+ruled {c} k i l = record {
+  sound = k .chain .rows i l;
+  capacity = ap (λ (b : Analysis). getD (b .queues) i noSize .capacity) (k .sizes) ∙ ap (λ (z : QueueSize). z .capacity) (size-at c i (k .chain .count .1) l);
+}

@@ -23,6 +23,7 @@ use lib.ListN.{length, getD, set, length-set}
 use lib.Seq.{getD-set-same, getD-set-other}
 use borrow.Author.Tests.{lt-ltb, le-ltb}
 use Rattle.chain.specs.Record.{rowOf}
+use Rattle.chain.specs.Sound.{Sound}
 use Rattle.chain.specs.declared.Chain.{Chain}
 use Rattle.sizing.specs.Sizes.{start, capacityOf}
 use Rattle.sizing.specs.Checks.{limit}
@@ -151,3 +152,8 @@ balance-kept c s i j k l enough b = by-cases (ℕ-discrete j i)
     (λ ne. by-cases (ℕ-discrete (suc j) i)
     (λ e. take-balance _ _ _ _ _ _ _ _ _ (count-other c s i j ne) (rw e (count-fired c s i (omega (arith, k .counts)))) (rw (← e) (held-input c s j (omega (arith, k .held)) (enough (sym e)))) b)
     (λ ne′. keep-balance _ _ _ _ _ _ _ _ _ (count-other c s i j ne) (count-other c s i (suc j) ne′) (held-other c s i j ne ne′) b))
+
+-- what the code of a firing asks: a sound chain, and a firing that manual firing accepts
+pub record Firing (c : Chain) (s : Run) (i : ℕ) : Type 0 where
+  pub chain : Sound c
+  pub may : May c s i

@@ -2,4 +2,3 @@ pub mod State
 pub mod Fired
 pub mod Checks
 pub mod Fire
-pub mod Past

@@ -57,7 +57,11 @@ fresh-empty c =
 unfoldable pub answered : Refusal → Run → Run → RunAnswer
 answered r s t = record { number = r .number; place = r .place; run = cond (eqb (r .number) 0) t s }
 
-pub answered-refused : (r : Refusal) (s t : Run) → (Silent r → ⊥) → record { number = r .number; place = r .place; run = s } ≡ answered r s t
+-- the answer of a call that is refused with number N and place L
+abbrev pub refusedWith : ℕ → ℕ → Run → RunAnswer
+refusedWith N L s = record { number = N; place = L; run = s }
+
+pub answered-refused : (r : Refusal) (s t : Run) → (Silent r → ⊥) → refusedWith (r .number) (r .place) s ≡ answered r s t
 unfolding answered
 answered-refused r s t h = simp (ne-eqb _ _ h)
 

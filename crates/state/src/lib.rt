@@ -1,5 +1,20 @@
-// The run state.
+// The run state: a fresh start, what one firing does to it, and manual firing.
+ghost use mathlib.Core.Path.{_≡_};
+ghost use mathlib.Core.Bool.{not};
+ghost use lib.Dec.{ltb};
+ghost use Prim.Native.Nat.{_+_};
+ghost use Rattle.chain.specs.Refusals.{first, refused};
+ghost use Rattle.state.specs.State.{refusedWith};
+ghost use Rattle.state.specs.Fired.{fired, Firing};
+ghost use Rattle.state.specs.Checks.{broken, stateCheck, over, cramped, Analysed, Ruled, Node};
+ghost use Rattle.state.specs.Fire.{freshAnswer, nodeChecks, fireAnswer};
+use chain::Chain;
+use chain::Queue;
+use chain::Refusal;
+use sizing::Analysis;
 
+// The state of a run: the clock, how often each node has fired (the source first), what each queue holds, and for each
+// queue the ticks of work done by the node that it feeds.
 #[repr(C)]
 pub struct Run {
     pub clock: u32,
@@ -8,9 +23,185 @@ pub struct Run {
     pub done: [u32; 16],
 }
 
+// A run state, with the refusal that the call ended with, if any.
 #[repr(C)]
 pub struct RunAnswer {
     pub number: u32,
     pub place: u32,
     pub run: Run,
+}
+
+// Nothing has fired and every queue is empty.
+pub const EMPTY: Run = Run {
+    clock: 0,
+    counts: [0; 17],
+    held: [0; 16],
+    done: [0; 16],
+};
+
+// The largest number that a count can be.
+const LIMIT: u32 = 4294967295;
+
+// A fresh start of a chain, or the first of 2, 4, 5, 6 and 7 that refuses it.
+pub fn fresh(chain: Chain) -> RunAnswer
+    ensures { λ r. ⌜ r ≡ freshAnswer chain ⌝ }
+{
+    let sized = sizing::analyse(chain);
+    RunAnswer {
+        number: sized.number,
+        place: sized.place,
+        run: EMPTY,
+    }
+}
+
+// A finished firing of node i.
+pub fn effect(chain: Chain, run: Run, i: usize) -> Run
+    requires { ⌜ Firing chain run i ⌝ }
+    ensures { λ r. ⌜ r ≡ fired chain run i ⌝ }
+{
+    let mut s = run;
+    s.counts[i] = s.counts[i] + 1;
+    if i < chain.n as usize {
+        let q = chain.queues[i];
+        s.held[i] = s.held[i] + q.produce;
+    }
+    if 0 < i {
+        let q = chain.queues[i - 1];
+        s.held[i - 1] = s.held[i - 1] - q.consume;
+    }
+    s
+}
+
+impl Run {
+    // One manual firing of a node: the state after it, or the state as it was with the first of 2, 4, 5, 6, 7, 17, 9, 11 and
+    // 12 that refuses it.
+    pub fn fire(self, chain: Chain, node: u32) -> RunAnswer
+        ensures { λ r. ⌜ r ≡ fireAnswer chain self node ⌝ }
+    {
+        let sized = sizing::analyse(chain);
+        if sized.number != 0 {
+            return given_back(sized.number, sized.place, self);
+        }
+        let damage = state_check(chain, sized.analysis, self);
+        if damage.number != 0 {
+            return given_back(damage.number, damage.place, self);
+        }
+        let own = node_check(chain, sized.analysis, self, node);
+        if own.number != 0 {
+            return given_back(own.number, own.place, self);
+        }
+        RunAnswer {
+            number: 0,
+            place: 0,
+            run: effect(chain, self, node as usize),
+        }
+    }
+}
+
+// The answer of a refused call that was handed a state: the state as it was.
+fn given_back(number: u32, place: u32, run: Run) -> RunAnswer
+    ensures { λ r. ⌜ r ≡ refusedWith number place run ⌝ }
+{
+    RunAnswer {
+        number: number,
+        place: place,
+        run: run,
+    }
+}
+
+// 17: the lowest queue of which the state breaks the balance, passes the capacity, or has all the work of a firing done.
+pub fn state_check(chain: Chain, analysis: Analysis, run: Run) -> Refusal
+    requires { ⌜ Analysed chain analysis ⌝ }
+    ensures { λ r. ⌜ r ≡ stateCheck chain run ⌝ }
+{
+    let n = chain.n as usize;
+    let mut i = 0;
+    while i < n {
+        let q = chain.queues[i];
+        let size = analysis.queues[i];
+        if is_broken(
+            q,
+            size.capacity,
+            chain.work[i],
+            run.counts[i],
+            run.counts[i + 1],
+            run.held[i],
+            run.done[i],
+        ) {
+            return refusal(17, i as u32);
+        }
+        i += 1;
+    }
+    chain::FINE
+}
+
+// Whether one of 17's reasons holds of a queue with this capacity in force, whose producer and consumer have fired
+// so often and which holds so much, its consumer having `done` of its execution time e behind it.
+fn is_broken(q: Queue, capacity: u32, e: u32, made: u32, used: u32, held: u32, done: u32) -> bool
+    requires { ⌜ Ruled q capacity ⌝ }
+    ensures { λ r. ⌜ r ≡ broken q e made used held done ⌝ }
+{
+    let given = (q.produce as u64) * (made as u64);
+    let kept = (held as u64) + (q.consume as u64) * (used as u64);
+    (given != kept) | (capacity < held) | (e <= done)
+}
+
+// 9, 11 and 12 of a firing in a state that passes 17.
+fn node_check(chain: Chain, analysis: Analysis, run: Run, node: u32) -> Refusal
+    requires { ⌜ Analysed chain analysis ⌝ }
+    ensures { λ r. ⌜ r ≡ first (nodeChecks chain run node) ⌝ }
+{
+    if chain.n < node {
+        return refusal(11, node);
+    }
+    let i = node as usize;
+    if run.counts[i] == LIMIT {
+        return refusal(9, node);
+    }
+    if is_waiting(chain, run, i) {
+        return refusal(11, node);
+    }
+    chain::test(12, node, is_cramped(chain, analysis, run, i))
+}
+
+// A refusal of this number and place.
+fn refusal(number: u32, place: u32) -> Refusal
+    ensures { λ r. ⌜ r ≡ refused number place ⌝ }
+{
+    Refusal {
+        number: number,
+        place: place,
+    }
+}
+
+// Whether node i is not over threshold.
+fn is_waiting(chain: Chain, run: Run, i: usize) -> bool
+    requires { ⌜ Node chain i ⌝ }
+    ensures { λ r. ⌜ r ≡ not (over chain run i) ⌝ }
+{
+    if i == 0 {
+        return false;
+    }
+    let q = chain.queues[i - 1];
+    run.held[i - 1] < q.threshold
+}
+
+// Whether a firing of node i would pass the capacity of its output queue.
+fn is_cramped(chain: Chain, analysis: Analysis, run: Run, i: usize) -> bool
+    requires { ⌜ Analysed chain analysis ⌝ }
+    ensures { λ r. ⌜ r ≡ cramped chain run i ⌝ }
+{
+    if chain.n as usize <= i {
+        return false;
+    }
+    let q = chain.queues[i];
+    let size = analysis.queues[i];
+    passes(size.capacity, run.held[i], q.produce)
+}
+
+// Whether a queue that holds so much passes its capacity with so much more.
+fn passes(capacity: u32, held: u32, more: u32) -> bool
+    ensures { λ r. ⌜ r ≡ ltb capacity (held + more) ⌝ }
+{
+    (capacity as u64) < (held as u64) + (more as u64)
 }

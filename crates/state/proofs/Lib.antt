@@ -1,0 +1,2 @@
+mod Node
+mod Answers

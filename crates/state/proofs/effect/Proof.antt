@@ -1,0 +1,164 @@
+-- `state::effect` meets its contract: p goes into the output queue, then c leaves the input queue, and the count has grown.
+use mathlib.Core.Path.{_≡_, refl, sym, ap, _∙_}
+use mathlib.Core.Logic.{⊎-elim, _≢_}
+use Prim.Native.Nat.{ℕ, zero, suc, _+_, _-_, _≤_, _<_}
+use native.Mathlib.Omega.{arith}
+use lib.ListN.{getD, set}
+use mathlib.Core.List.{List}
+use mir.Val.{Fits}
+use mir.Syntax.{w32}
+use borrow.Author.Tests.{lt-ltb, le-ltb}
+use Rattle.chain.specs.Record.{rowOf}
+use Rattle.chain.specs.declared.Chain.{Chain}
+use Rattle.sizing.specs.Sizes.{capacity-most}
+use Rattle.state.specs.State.{countAt, heldAt}
+use Rattle.state.specs.Fired.{produced, consumed, fired, produced-other, Over, Firing}
+use Rattle.state.specs.declared.Run.{Run}
+use borrow.Author.Needs.{needs}
+use Rattle.state.proofs.effect.Statement.{statement}
+use Rattle.state.proofs.effect.Tie as tie
+
+-- the state where the two ways of the production meet
+abbrev half : Chain → Run → ℕ → Run
+half k r i = record { clock = r .clock; counts = set (r .counts) i (getD (r .counts) i 0 + 1); held = produced k i (r .held); done = r .done }
+
+abbrev withHeld : Run → List ℕ → Run
+withHeld r h = record { clock = r .clock; counts = r .counts; held = h; done = r .done }
+
+mid : (c : tie.Joined1) → c .if1 .s ≡ half (c .before .before .args .t1) (c .before .before .args .run) (c .before .before .args .i)
+unfolding produced
+mid c = ⊎-elim (λ w. w .4 ∙ simp (lt-ltb _ _ (w .0 .taken))) (λ w. w .1 ∙ simp (le-ltb _ _ (w .0 .left))) (c .if1 .came)
+
+-- the input queue, which the production leaves alone, holds what is taken
+takes : {c : Chain} {s : Run} (i : ℕ) → Firing c s i → 0 < i → rowOf c (i - 1) .consume ≤ heldAt s (i - 1)
+takes zero k l = absurd (omega arith)
+takes (suc j) k l = let e : suc j - 1 ≡ j = omega arith in rw e (omega (arith, k .may .over, k .chain .rows j (k .may .node) .order))
+
+-- the state after the removal, where the node has an input queue and where it has none
+module _ (c : Chain) (s : Run) where
+  taken : (i : ℕ) → 0 < i → withHeld (half c s i) (set (produced c i (s .held)) (i - 1) (getD (produced c i (s .held)) (i - 1) 0 - rowOf c (i - 1) .consume)) ≡ fired c s i
+  unfolding fired consumed
+  taken zero l = absurd (omega arith)
+  taken (suc j) l = let e : suc j - 1 ≡ j = omega arith in rw e
+
+  none-taken : (i : ℕ) → i ≤ 0 → half c s i ≡ fired c s i
+  unfolding fired consumed
+  none-taken zero l = refl
+  none-taken (suc j) l = absurd (omega arith)
+
+mul-s : tie.Need-mul-s
+mul-s c = search needs
+
+element-copy-out-s : tie.Need-element-copy-out-s
+element-copy-out-s c = search needs
+
+add-s : tie.Need-add-s
+add-s c = let fits : Fits w32 (countAt (c .before .args .run) (c .before .args .i)) = search needs in record { fits = omega (arith, fits .fits, c .before .pre .may .countable) }
+
+mul-s-2 : tie.Need-mul-s-2
+mul-s-2 c = search needs
+
+element-write-s : tie.Need-element-write-s
+element-write-s c = search needs
+
+cast-if1 : tie.Need-cast-if1
+cast-if1 c = search needs
+
+mul-q : tie.Need-mul-q
+mul-q c = search needs
+
+element-copy-out-q : tie.Need-element-copy-out-q
+element-copy-out-q c = search needs
+
+mul-s-3 : tie.Need-mul-s-3
+mul-s-3 c = search needs
+
+element-copy-out-s-2 : tie.Need-element-copy-out-s-2
+element-copy-out-s-2 c = search needs
+
+add-s-2 : tie.Need-add-s-2
+add-s-2 c =
+    let k = c .before .before .before .before .before in
+    let l = c .before .before .before .if1 .taken in
+    record { fits = omega (arith, k .pre .may .room l, capacity-most (k .pre .chain .rows (k .args .i) l)) }
+
+mul-s-4 : tie.Need-mul-s-4
+mul-s-4 c = search needs
+
+element-write-s-2 : tie.Need-element-write-s-2
+element-write-s-2 c = search needs
+
+sub-q : tie.Need-sub-q
+sub-q c = search needs
+
+mul-q-2 : tie.Need-mul-q-2
+mul-q-2 c = search needs
+
+element-copy-out-q-2 : tie.Need-element-copy-out-q-2
+element-copy-out-q-2 c = search needs
+
+sub-s : tie.Need-sub-s
+sub-s c = search needs
+
+mul-s-5 : tie.Need-mul-s-5
+mul-s-5 c = search needs
+
+element-copy-out-s-3 : tie.Need-element-copy-out-s-3
+element-copy-out-s-3 c = search needs
+
+sub-s-2 : tie.Need-sub-s-2
+sub-s-2 c =
+    let k = c .before .before .before .before .before .before in
+    let z = c .before .before .before .if2 .taken in
+    let ne : k .args .i - 1 ≢ k .args .i = λ e. omega arith in
+    rw (mid (c .before .before .before .before), produced-other (k .args .t1) (k .args .i) (k .args .run .held) (k .args .i - 1) ne) (takes (k .args .i) (k .pre) z)
+
+sub-s-3 : tie.Need-sub-s-3
+sub-s-3 c = search needs
+
+mul-s-6 : tie.Need-mul-s-6
+mul-s-6 c = search needs
+
+element-write-s-3 : tie.Need-element-write-s-3
+element-write-s-3 c = search needs
+
+returns : tie.Need-returns
+returns c =
+    let k = c .before .before .before .before .before .before in
+    let z = c .before .before .before .if2 .taken in
+    rw (mid (c .before .before .before .before)) (taken (k .args .t1) (k .args .run) (k .args .i) z)
+
+returns-2 : tie.Need-returns-2
+returns-2 c =
+    let k = c .before .before .before in
+    mid (c .before) ∙ none-taken (k .args .t1) (k .args .run) (k .args .i) (c .if2 .left)
+
+pub effect-spec : {M : Type 1} → statement M
+effect-spec =
+    tie.close
+    (tie.spec
+    mul-s
+    element-copy-out-s
+    add-s
+    mul-s-2
+    element-write-s
+    cast-if1
+    mul-q
+    element-copy-out-q
+    mul-s-3
+    element-copy-out-s-2
+    add-s-2
+    mul-s-4
+    element-write-s-2
+    sub-q
+    mul-q-2
+    element-copy-out-q-2
+    sub-s
+    mul-s-5
+    element-copy-out-s-3
+    sub-s-2
+    sub-s-3
+    mul-s-6
+    element-write-s-3
+    returns
+    returns-2)

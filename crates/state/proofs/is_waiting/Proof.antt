@@ -1,0 +1,64 @@
+-- `state::is_waiting` meets its contract: the source never waits, and another node waits where its input queue is below threshold.
+use mathlib.Core.Path.{_≡_, refl, sym, ap, _∙_}
+use mathlib.Core.Bool.{Bool, true, false, not}
+use Prim.Native.Nat.{ℕ, zero, suc, _-_, _≤_, _<_}
+use native.Mathlib.Omega.{arith}
+use lib.Dec.{ltb, leb}
+use borrow.Author.Needs.{needs}
+use borrow.Author.Tests.{lt-ltb, le-ltb, le-leb, lt-leb, ltb-true, ltb-false}
+use Rattle.chain.specs.Record.{rowOf}
+use Rattle.chain.specs.declared.Chain.{Chain}
+use Rattle.state.specs.State.{heldAt}
+use Rattle.state.specs.Checks.{over}
+use Rattle.state.specs.declared.Run.{Run}
+use Rattle.state.proofs.is_waiting.Statement.{statement}
+use Rattle.state.proofs.is_waiting.Tie as tie
+
+-- below is not at least
+opposite : (x t : ℕ) → ltb x t ≡ not (leb t x)
+opposite x t = by (ltb x t) refl
+  where
+    by : (b : Bool) → ltb x t ≡ b → b ≡ not (leb t x)
+    by true e = simp (lt-leb t x (ltb-true x t e))
+    by false e = simp (le-leb t x (ltb-false x t e))
+
+waits : (c : Chain) (s : Run) (i : ℕ) → (i ≡ 0 → ⊥) → ltb (heldAt s (i - 1)) (rowOf c (i - 1) .threshold) ≡ not (over c s i)
+waits c s zero n = absurd (n refl)
+waits c s (suc j) n = let e : suc j - 1 ≡ j = omega arith in rw e (opposite (heldAt s j) (rowOf c j .threshold))
+
+returns : tie.Need-returns
+returns c = search needs
+
+sub-q : tie.Need-sub-q
+sub-q c = search needs
+
+mul-q : tie.Need-mul-q
+mul-q c = search needs
+
+element-copy-out-q : tie.Need-element-copy-out-q
+element-copy-out-q c = search needs
+
+sub-result : tie.Need-sub-result
+sub-result c = search needs
+
+mul-result : tie.Need-mul-result
+mul-result c = search needs
+
+element-copy-out-result : tie.Need-element-copy-out-result
+element-copy-out-result c = search needs
+
+returns-2 : tie.Need-returns-2
+returns-2 c = waits _ _ _ (c .before .before .before .if1 .left)
+
+pub is-waiting-spec : {M : Type 1} → statement M
+is-waiting-spec =
+    tie.close
+    (tie.spec
+    returns
+    sub-q
+    mul-q
+    element-copy-out-q
+    sub-result
+    mul-result
+    element-copy-out-result
+    returns-2)
