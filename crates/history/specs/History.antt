@@ -1,0 +1,81 @@
+-- A history: the nodes that fired, in order (01, Firing, and demand 3).
+--   times i h                how often N_i stands in h
+--   after c s h              the state that the firings h lead to from s
+--   Permitted c s h          a permitted order: manual firing accepts each of its firings in turn
+--   Prompt c s h             no node fires while the node that it feeds is over threshold
+--   HasHeld c h j b          from a fresh start, queue j has held at least b at some moment of h
+--   after-append, permitted-append, prompt-append
+--                            histories one after the other
+--   permitted-before, prompt-before
+--                            what a history begins with
+--   permitted-may            a permitted firing, as its parts
+use mathlib.Core.Path.{_≡_, refl}
+use mathlib.Core.Bool.{Bool, cond}
+use mathlib.Core.List.{List, [], _∷_, _++_}
+use Prim.Native.Nat.{ℕ, zero, suc, _≤_, _<_}
+use lib.Dec.{eqb}
+use Rattle.chain.specs.Refusals.{Silent}
+use Rattle.chain.specs.Record.{rowOf}
+use Rattle.chain.specs.declared.Chain.{Chain}
+use Rattle.sizing.specs.Accepted.{Accepted}
+use Rattle.state.specs.State.{heldAt, freshRun}
+use Rattle.state.specs.Fired.{fired, May}
+use Rattle.state.specs.Checks.{StateSound}
+use Rattle.state.specs.Fire.{fireRefusal, fire-accepts}
+use Rattle.state.specs.declared.Run.{Run}
+
+-- how often N_i fires in h
+unfoldable pub times : ℕ → List ℕ → ℕ
+times i [] = 0
+times i (j ∷ h) = cond (eqb j i) (suc (times i h)) (times i h)
+
+-- the state after the firings h, from s on
+unfoldable pub after : Chain → Run → List ℕ → Run
+after c s [] = s
+after c s (i ∷ h) = after c (fired c s i) h
+
+-- "a permitted order is one in which every firing was accepted"
+unfoldable pub Permitted : Chain → Run → List ℕ → Type 0
+Permitted c s [] = Unit
+Permitted c s (i ∷ h) = Silent (fireRefusal c s i) × Permitted c (fired c s i) h
+
+-- each node fires only when the node that it feeds, if any, is below threshold
+unfoldable pub Prompt : Chain → Run → List ℕ → Type 0
+Prompt c s [] = Unit
+Prompt c s (i ∷ h) = (i < c .n → heldAt s i < rowOf c i .threshold) × Prompt c (fired c s i) h
+
+-- at some moment of h, which is the end of what h begins with, queue j holds at least b
+pub record HasHeld (c : Chain) (h : List ℕ) (j b : ℕ) : Type 0 where
+  pub before : List ℕ
+  pub later : List ℕ
+  pub parts : h ≡ before ++ later
+  pub holds : b ≤ heldAt (after c (freshRun c) before) j
+
+module _ (c : Chain) where
+  pub after-append : (s : Run) (g h : List ℕ) → after c s (g ++ h) ≡ after c (after c s g) h
+  unfolding after
+  after-append s [] h = refl
+  after-append s (i ∷ g) h = after-append (fired c s i) g h
+
+  pub permitted-append : (s : Run) (g h : List ℕ) → Permitted c s g → Permitted c (after c s g) h → Permitted c s (g ++ h)
+  unfolding after Permitted
+  permitted-append s [] h a b = b
+  permitted-append s (i ∷ g) h a b = (a .0, permitted-append (fired c s i) g h (a .1) b)
+
+  pub permitted-before : (s : Run) (g h : List ℕ) → Permitted c s (g ++ h) → Permitted c s g
+  unfolding Permitted
+  permitted-before s [] h a = tt
+  permitted-before s (i ∷ g) h a = (a .0, permitted-before (fired c s i) g h (a .1))
+
+  pub prompt-append : (s : Run) (g h : List ℕ) → Prompt c s g → Prompt c (after c s g) h → Prompt c s (g ++ h)
+  unfolding after Prompt
+  prompt-append s [] h a b = b
+  prompt-append s (i ∷ g) h a b = (a .0, prompt-append (fired c s i) g h (a .1) b)
+
+  pub prompt-before : (s : Run) (g h : List ℕ) → Prompt c s (g ++ h) → Prompt c s g
+  unfolding Prompt
+  prompt-before s [] h a = tt
+  prompt-before s (i ∷ g) h a = (a .0, prompt-before (fired c s i) g h (a .1))
+
+  pub permitted-may : (s : Run) (i : ℕ) → Silent (fireRefusal c s i) → Accepted c × (StateSound c s × May c s i)
+  permitted-may s i z = fire-accepts c s i .0 z
