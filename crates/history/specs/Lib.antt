@@ -1,3 +1,4 @@
 pub mod History
 pub mod Queues
 pub mod Laws
+pub mod Figures

@@ -1,0 +1,52 @@
+-- Figures of a history of Feed, from a fresh start, each computed.
+--   feed                     the factory chain 0: one queue, (4,7,3)
+--   feed-history             P5's run with k = 4: each firing of the source, then the sink until it is below threshold
+--   feed-times               each of the two nodes fires 4 times
+--   feed-left                at its end the queue holds 4, as P5 has it
+--   feed-first, feed-top     after its first 6 firings the queue holds 10, its minimum
+--   feed-permitted, feed-prompt
+--                            manual firing accepts each firing in turn, and the source fires only below threshold
+use mathlib.Core.Path.{_≡_, refl}
+use mathlib.Core.List.{List, [], _∷_}
+use Prim.Native.Nat.{ℕ}
+use native.Mathlib.Omega.{arith}
+use Rattle.chain.specs.Record.{rowOf}
+use Rattle.chain.specs.Factory.{factoryAnswer}
+use Rattle.chain.specs.declared.Chain.{Chain}
+use Rattle.onequeue.specs.Minimum.{minimum}
+use Rattle.sizing.specs.Sizes.{minimumOf}
+use Rattle.state.specs.State.{heldAt, freshRun}
+use Rattle.state.specs.Fired.{fired}
+use Rattle.state.specs.Fire.{fireRefusal}
+use Rattle.history.specs.History.{times, after, Permitted, Prompt}
+
+abbrev pub feed : Chain
+feed = factoryAnswer 0 .chain
+
+abbrev pub feed-history : List ℕ
+feed-history = 0 ∷ 0 ∷ 1 ∷ 0 ∷ 1 ∷ 0 ∷ 1 ∷ 1 ∷ []
+
+-- its first 6 firings
+abbrev pub feed-first : List ℕ
+feed-first = 0 ∷ 0 ∷ 1 ∷ 0 ∷ 1 ∷ 0 ∷ []
+
+pub feed-times : (times 0 feed-history ≡ 4) × (times 1 feed-history ≡ 4)
+unfolding times
+feed-times = (refl, refl)
+
+pub feed-left : heldAt (after feed (freshRun feed) feed-history) 0 ≡ 4
+unfolding factoryAnswer freshRun fired after
+feed-left = refl
+
+pub feed-top : (heldAt (after feed (freshRun feed) feed-first) 0 ≡ 10) × (minimumOf (rowOf feed 0) ≡ 10)
+unfolding factoryAnswer freshRun fired after minimum
+feed-top = (refl, refl)
+
+pub feed-permitted : Permitted feed (freshRun feed) feed-history
+unfolding factoryAnswer freshRun fired fireRefusal Permitted
+feed-permitted = (refl, (refl, (refl, (refl, (refl, (refl, (refl, (refl, tt))))))))
+
+pub feed-prompt : Prompt feed (freshRun feed) feed-history
+unfolding factoryAnswer freshRun fired Prompt
+feed-prompt =
+    (λ l. omega arith, (λ l. omega arith, (λ l. omega arith, (λ l. omega arith, (λ l. omega arith, (λ l. omega arith, (λ l. omega arith, (λ l. omega arith, tt))))))))
