@@ -2,3 +2,4 @@ pub mod Chains
 pub mod Files
 pub mod Analyses
 pub mod Reports
+pub mod Runs

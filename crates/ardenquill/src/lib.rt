@@ -6,6 +6,7 @@ ghost use Rattle.ardenquill.specs.Files.{readAnswer, packed, writeRefusa
 ghost use Rattle.ardenquill.specs.Chains.{factoryAnswer};
 ghost use Rattle.ardenquill.specs.Analyses.{analyseAnswer};
 ghost use Rattle.ardenquill.specs.Reports.{reportText, reportRefusal};
+ghost use Rattle.ardenquill.specs.Runs.{freshAnswer, fireAnswer};
 pub use chain::Chain;
 pub use chain::ChainAnswer;
 pub use chain::Queue;
@@ -22,6 +23,9 @@ pub use sizing::AnalysisAnswer;
 pub use sizing::QueueSize;
 pub use sizing::analyse;
 pub use sizing::checked_for_run;
+pub use state::Run;
+pub use state::RunAnswer;
+pub use state::fresh;
 
 // The chain of a file, or the first of 1 to 5 that refuses it.
 #[no_mangle]
@@ -61,4 +65,21 @@ pub extern "C" fn ardenquill_report(file: &[u8], out: &mut [u8]) -> LengthAnswer
     ensures { λ r. ⌜ Output (reportRefusal (now (file .entry)) (length (now (out .entry)))) (reportText (now (file .entry))) (now (out .entry)) (now (out .exit)) r ⌝ }
 {
     report(file, out)
+}
+
+// A fresh start of a chain, or the first of 2, 4, 5, 6 and 7 that refuses it.
+#[no_mangle]
+pub extern "C" fn ardenquill_fresh(chain: Chain) -> RunAnswer
+    ensures { λ r. ⌜ r ≡ freshAnswer chain ⌝ }
+{
+    fresh(chain)
+}
+
+// One manual firing: the state after it, or the state as it was with the first of 2, 4, 5, 6, 7, 17, 9, 11 and 12 that
+// refuses it.
+#[no_mangle]
+pub extern "C" fn ardenquill_fire(chain: Chain, run: Run, node: u32) -> RunAnswer
+    ensures { λ r. ⌜ r ≡ fireAnswer chain run node ⌝ }
+{
+    run.fire(chain, node)
 }

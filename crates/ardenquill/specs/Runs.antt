@@ -1,0 +1,7 @@
+-- What the public calls promise of run states, handed on from the crates `state`, `events` and `history`.
+pub use Rattle.state.specs.State.{countAt, heldAt, doneAt, emptyRun, freshRun, fresh-empty, answered, refusedWith}
+unfoldable pub use Rattle.state.specs.Fired.{fired}
+pub use Rattle.state.specs.Fired.{Over, Room, May, Balance, Slots, count-fired, count-other, held-output, held-input, held-other, held-sink, balance-kept}
+pub use Rattle.state.specs.Checks.{broken, stateTest, stateCheck, spent, countCheck, over, idle, overCheck, cramped, roomCheck, Broken, Steady, FirstBroken, StateSound, state-exact, state-silent}
+pub use Rattle.state.specs.Fire.{nodeChecks, fireChecks, fire-parts, fire-accepts, fire-accepted, fire-refused, fire-17, fire-9, fire-11, fire-12, fire-earlier}
+unfoldable pub use Rattle.state.specs.Fire.{freshAnswer, fireRefusal, fireAnswer}
