@@ -1,2 +1,4 @@
 pub mod Counts
+pub mod Figures
 pub mod Reached
+pub mod Schedule

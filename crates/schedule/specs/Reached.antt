@@ -3,6 +3,7 @@
 --   fresh-held, -count       what a queue holds at a fresh start, and a count then
 --   reached-fresh            a fresh start is one
 --   reached-slots            it has a count for each node and a slot for each queue
+--   reached-done             no node has work done
 --   reached-fired            a firing of a node that may fire leads to one
 --   reached-along, -after    so does a permitted order, from any of them and from a fresh start
 --   Calm c s i               no node after N_i is over threshold; of i = 0: only the source may fire
@@ -30,7 +31,7 @@ use Rattle.chain.specs.declared.Chain.{Chain}
 use Rattle.events.specs.Counts.{fires-is}
 use Rattle.events.specs.Peak.{room}
 use Rattle.sizing.specs.Sizes.{start, minimumOf}
-use Rattle.state.specs.State.{countAt, heldAt, freshRun, same-run}
+use Rattle.state.specs.State.{countAt, heldAt, doneAt, freshRun, same-run}
 use Rattle.state.specs.Fired.{fired, Over, Balance, Slots, counts-length, holds-length, count-fired, count-other, held-sink, balance-kept}
 use Rattle.state.specs.declared.Run.{Run}
 use Rattle.history.specs.History.{after, Permitted, permitted-may}
@@ -108,6 +109,9 @@ over-at c s i j e o = rw e at o
 module _ {c : Chain} {s : Run} (k : Sound c) (r : Reached c s) where
   pub reached-slots : Slots (c .n) s
   reached-slots = record { counts = omega (arith, r .wide, k .count .1); held = omega (arith, r .deep, k .count .1) }
+
+  pub reached-done : (j : ℕ) → doneAt s j ≡ 0
+  reached-done j = ap (λ (l : List ℕ). getD l j 0) (r .done) ∙ zeros 16 j
 
   owed-kept : (i : ℕ) → i ≤ c .n → Over c s i → (j : ℕ) → j < c .n → 0 < countAt (fired c s i) (suc j)
       → rowOf c j .consume * countAt (fired c s i) (suc j) + rowOf c j .threshold ≤ start (rowOf c j) + rowOf c j .produce * countAt (fired c s i) j + rowOf c j .consume
