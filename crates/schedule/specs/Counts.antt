@@ -46,6 +46,10 @@ pub F-feeds : {c : Chain} → Sound c → (k i : ℕ) → i < c .n → 0 < F c k
 unfolding F
 F-feeds {c} s k i l h = some-fed (start (rowOf c i)) (rowOf c i .produce) (rowOf c i .threshold) (F c k i) (s .rows i l .threshold .0) (fires-pos _ _ _ h)
 
+-- what the producer's m × q × x more firings put in is what the consumer's m × x′ more take out
+more : (s p d q x x′ N m : ℕ) → d * x′ ≡ p * x * q → s + p * (N + m * q * x) ≡ s + p * N + d * (m * x′)
+more s p d q x x′ N m e = omega (arith, ap (λ (n : ℕ). m * n) e)
+
 -- "y_i/y" of the rate law
 abbrev pub turnsOf : Chain → ℕ → ℕ
 turnsOf c i = yOf c i / c .period
@@ -57,10 +61,6 @@ module _ (c : Chain) (s : Sound c) where
 
   pub turns-next : (i : ℕ) → i < c .n → turnsOf c (suc i) ≡ stretchOf c i * turnsOf c i
   turns-next i l = ap (λ (n : ℕ). n / c .period) (y-stretch c s i l) ∙ mul-div-assoc (c .period) (stretchOf c i) (y-source c s i (omega arith))
-
-  -- what the producer's m × q × x more firings put in is what the consumer's m × x′ more take out
-  more : (s p d q x x′ N m : ℕ) → d * x′ ≡ p * x * q → s + p * (N + m * q * x) ≡ s + p * N + d * (m * x′)
-  more s p d q x x′ N m e = omega (arith, ap (λ (n : ℕ). m * n) e)
 
   pub rates : (i : ℕ) → i ≤ c .n → (k m : ℕ) → 0 < F c k i → F c (k + m * turnsOf c i) i ≡ F c k i + m * xOf c i
   unfolding F xOf

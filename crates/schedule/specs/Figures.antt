@@ -5,8 +5,7 @@
 --   permeate-schedule        the order of Permeate's run of 3: the second firing of N_1 sets off two of the sink
 --   flush-counts             the counts of Flush's nodes after 32 firings of the source
 use mathlib.Core.Path.{_≡_, refl}
-use mathlib.Core.List.{List, [], _∷_, map}
-use Prim.Native.Nat.{ℕ}
+use mathlib.Core.List.{[], _∷_, map}
 use Rattle.chain.specs.Factory.{factoryAnswer}
 use Rattle.chain.specs.declared.Chain.{Chain}
 use Rattle.state.specs.State.{countAt, heldAt, freshRun}

@@ -2,15 +2,18 @@
 --   joined f r N             f at N, N + 1, .. N + r - 1, joined
 --   burst c m i N            what the firing of N_i that takes its count from N to N + 1 sets off, m queues being left towards the sink
 --   burst-exact              its minus is exact
---   schedule c k             the immediate run of k source firings, from a fresh start
+--   schedule c k             the immediate run of k source firings, from a fresh start; schedule-none, -more: one source firing after the other
 --   Next c s i               01's rule: N_i is the node nearest the sink that may fire
---   next-one                 there is no other
+--   next-one, HasNext, next-some
+--                            there is exactly one such node in every state
 --   Follows c s h            each firing of h, from s on, is by the rule; follows-append: histories one after the other
 --   counted                  a node's count after a history
+--   Ran c s i M h            what firings h by the rule leave of N_i and the nodes after it
+--   Bursts c i f, burst-runs each burst of N_i takes its count from N to N + 1 and settles the queues after it
 --   rule, ends, source, reached, counts-are-F
 --                            the schedule is by the rule, ends with no node but the source over threshold, and has k source firings; its
 --                            state is one that firings lead to, with the counts F
---   unique                   no other history by the rule does so
+--   follows-alike, unique    no other history by the rule does so
 --   follows-prompt           by the rule no node fires while the node that it feeds is over threshold
 --   Tight c s                no queue holds more than its minimum; fresh-tight, tight-fired: by the rule none ever does
 --   follows-permitted, permitted
@@ -18,9 +21,9 @@
 --   any-order                any permitted order that ends so leads to the schedule's state
 use mathlib.Core.Path.{_≡_, refl, sym, ap, ap₂, subst, _∙_}
 use mathlib.Core.Logic.{_≢_, _⊎_, ⊎-elim, by-cases}
-use mathlib.Core.List.{List, [], _∷_, _++_}
+use mathlib.Core.List.{List, [], _∷_, _++_, append-nil, append-assoc}
 use Prim.Native.Nat.{ℕ, zero, suc, _+_, _-_, _*_, _≤_, _<_}
-use native.Mathlib.Nat.{le-refl, le-trans, add-zero}
+use native.Mathlib.Nat.{le-refl, le-trans, lt-of-not-le, add-zero, zero-add}
 use native.Mathlib.Decide.{ℕ-discrete, decLe}
 use native.Mathlib.Omega.{arith}
 use lib.ListN.{length}
@@ -62,6 +65,21 @@ schedule c k = joined (burst c (c .n) 0) k 0
 pub burst-exact : (c : Chain) (i N : ℕ) → fed c i N + (fed c i (suc N) - fed c i N) ≡ fed c i (suc N)
 burst-exact c i N = omega (arith, fed-mono c i N (suc N) (omega arith))
 
+-- one more source firing, at the end
+joined-last : (f : ℕ → List ℕ) (r N : ℕ) → joined f (suc r) N ≡ joined f r N ++ f (N + r)
+unfolding joined
+joined-last f zero N = append-nil (f N) ∙ ap f (sym (add-zero N))
+joined-last f (suc r) N =
+    ap (λ (h : List ℕ). f N ++ h) (joined-last f r (suc N) ∙ ap (λ (m : ℕ). joined f r (suc N) ++ f m) (omega arith)) ∙ sym (append-assoc (f N) (joined f r (suc N)) (f (N + suc r)))
+
+pub schedule-none : (c : Chain) → schedule c 0 ≡ []
+unfolding schedule
+schedule-none c = refl
+
+pub schedule-more : (c : Chain) (k : ℕ) → schedule c (suc k) ≡ schedule c k ++ burst c (c .n) 0 k
+unfolding schedule
+schedule-more c k = joined-last (burst c (c .n) 0) k 0 ∙ ap (λ (m : ℕ). joined (burst c (c .n) 0) k 0 ++ burst c (c .n) 0 m) (zero-add k)
+
 -- "no source firing happens while another node may fire, and among those that may, the one nearest the sink goes first"
 pub record Next (c : Chain) (s : Run) (i : ℕ) : Type 0 where
   pub node : i ≤ c .n
@@ -75,6 +93,20 @@ not-after c s i (suc j) a b = by-cases (decLe (suc j) i) (λ l. l) (λ f. absurd
 
 pub next-one : (c : Chain) (s : Run) (i j : ℕ) → Next c s i → Next c s j → i ≡ j
 next-one c s i j a b = omega (arith, not-after c s i j a b, not-after c s j i b a)
+
+-- and there is always one: the search goes from the sink down, and ends at the source
+pub record HasNext (c : Chain) (s : Run) : Type 0 where
+  pub at : ℕ
+  pub next : Next c s at
+
+next-from : (c : Chain) (s : Run) (m : ℕ) → m ≤ c .n → Calm c s m → HasNext c s
+next-from c s zero l calm = record { at = 0; next = record { node = l; over = tt; nearest = calm } }
+next-from c s (suc m) l calm = by-cases (decLe (rowOf c m .threshold) (heldAt s m))
+    (λ o. record { at = suc m; next = record { node = l; over = o; nearest = calm } })
+    (λ f. next-from c s m (omega arith) (λ j a b. by-cases (ℕ-discrete m j) (λ e. rw (← e) (lt-of-not-le f)) (λ ne. calm j (omega arith) b)))
+
+pub next-some : (c : Chain) (s : Run) → HasNext c s
+next-some c s = next-from c s (c .n) (le-refl (c .n)) (λ j a b. absurd (omega arith))
 
 -- a history by the rule
 unfoldable pub Follows : Chain → Run → List ℕ → Type 0
@@ -112,7 +144,7 @@ counted c s (j ∷ h) i l = counted c (fired c s j) h i (omega (arith, counts-le
 
 -- what firings by the rule from s leave, of N_i and the nodes after it: N_i has fired M times, no node after it is over threshold, and no node
 -- before it has fired
-record Ran (c : Chain) (s : Run) (i M : ℕ) (h : List ℕ) : Type 0 where
+pub record Ran (c : Chain) (s : Run) (i M : ℕ) (h : List ℕ) : Type 0 where
   pub follows : Follows c s h
   pub reached : Reached c (after c s h)
   pub calm : Calm c (after c s h) i
@@ -129,7 +161,7 @@ ran-more c s i N M g h a b = record {
 }
 
 -- f N is a run of one firing of N_i, from N to N + 1, with what it sets off
-abbrev Bursts : Chain → ℕ → (ℕ → List ℕ) → Type 0
+abbrev pub Bursts : Chain → ℕ → (ℕ → List ℕ) → Type 0
 Bursts c i f = (s : Run) (N : ℕ) → countAt s i ≡ N → Reached c s → Calm c s i → Over c s i → Ran c s i (suc N) (f N)
 
 -- N_i may fire until it has fired M times, whatever the nodes after it do
@@ -167,7 +199,7 @@ module _ (c : Chain) (k : Sound c) where
       (λ same. rw (← same) (now-below _ _ _ _ _ _ _ (k .rows i l .consume .0) (q .balance i l) e))
       (λ ne. calm j (omega arith) lt)
 
-  burst-runs : (m i : ℕ) → i + m ≡ c .n → Bursts c i (burst c m i)
+  pub burst-runs : (m i : ℕ) → i + m ≡ c .n → Bursts c i (burst c m i)
   unfolding burst after Follows
   burst-runs zero i e s N at reached calm over = record {
     follows = (record { node = omega arith; over = over; nearest = calm }, tt);
