@@ -1,58 +1,56 @@
+-- `immediate::too_long` meets its contract: before node i is looked at, no count before it passes the limit.
+use mathlib.Core.Path.{_≡_, _∙_}
+use Prim.Native.Nat.{ℕ, _+_, _-_, _≤_, _<_}
+use native.Mathlib.Omega.{arith}
+use borrow.Author.Needs.{needs}
+use Rattle.immediate.specs.Long.{Passing, passing-none, passing-more, passing-over, passing-past}
 use Rattle.immediate.proofs.too_long.Statement.{statement}
 use Rattle.immediate.proofs.too_long.Tie as tie
-use Rattle.immediate.proofs.too_long.Reads as reads
-use Rattle.immediate.proofs.too_long.Lts as lts
-use Rattle.immediate.proofs.fed.Reads as fed-reads
 
 abbrev Inv-loop : tie.InvT-loop
-Inv-loop k chain n count₀ i₀ count i = ?
+Inv-loop k chain n count₀ i₀ count i = Passing chain k count i
 
 abbrev μ-loop : tie.MeasureT-loop
-μ-loop k chain n count₀ i₀ count i = ?
+μ-loop k chain n count₀ i₀ count i = n - i
 
--- src/lib.rt:23:13
+-- a node that is not the sink feeds a queue
+inside : (c : tie.Else1 Inv-loop μ-loop) → (c .before .before .loop .i < c .before .before .before .args .t1 .n) × (c .before .before .loop .i < 16)
+inside c =
+    let l : c .before .before .loop .i < c .before .before .before .args .t1 .n = omega (arith, c .before .before .loop .inv .reach, c .if1 .left) in
+    (l, omega (arith, l, c .before .before .before .pre .count .1))
+
 cast-n : tie.Need-cast-n Inv-loop μ-loop
-cast-n c = ?
+cast-n c = search needs
 
--- src/lib.rt:26:5
 loop-holds : tie.Need-loop-holds Inv-loop μ-loop
-loop-holds c = ?
+loop-holds c = passing-none _ _
 
--- src/lib.rt:28:13
 returns : tie.Need-returns Inv-loop μ-loop
-returns c = ?
+returns c = passing-past (c .before .before .loop .inv) (c .if1 .taken) (c .before .loop-test .taken)
 
--- src/lib.rt:30:17
 mul-q : tie.Need-mul-q Inv-loop μ-loop
-mul-q c = ?
+mul-q c = let l = inside (c) in record { fits = omega (arith, l) }
 
--- src/lib.rt:30:17
 element-copy-out-q : tie.Need-element-copy-out-q Inv-loop μ-loop
-element-copy-out-q c = ?
+element-copy-out-q c = omega (arith, inside c)
 
--- src/lib.rt:31:9
 fed-requires : tie.Need-fed-requires Inv-loop μ-loop
-fed-requires c κs = ?
+fed-requires c κs = record { sound = c .before .before .before .before .pre .rows _ (inside (c .before) .0); few = c .before .before .loop-test .taken }
 
--- src/lib.rt:32:9
 add-i : tie.Need-add-i Inv-loop μ-loop
-add-i c = ?
+add-i c = record { fits = omega (arith, inside (c .before .before)) }
 
--- src/lib.rt:26:5
 loop-less : tie.Need-loop-less Inv-loop μ-loop
-loop-less c = ?
+loop-less c = omega (arith, inside (c .before .before))
 
--- src/lib.rt:26:5
 loop-again : tie.Need-loop-again Inv-loop μ-loop
-loop-again c = ?
+loop-again c = passing-more (c .before .before .before .before .loop .inv) (inside (c .before .before) .0) (c .before .before .before .loop-test .taken) (c .fed .ensures)
 
--- src/lib.rt:36:16
 cast-t8 : tie.Need-cast-t8 Inv-loop μ-loop
-cast-t8 c = ?
+cast-t8 c = record { fits = omega (arith, c .before .loop .inv .reach, c .before .before .pre .count .1) }
 
--- src/lib.rt:19:1
 returns-2 : tie.Need-returns-2 Inv-loop μ-loop
-returns-2 c = ?
+returns-2 c = passing-over (c .before .loop .inv) (c .loop-test .left)
 
 pub too-long-spec : {M : Type 1} → statement M
 too-long-spec =
