@@ -7,8 +7,8 @@
 --   tab-alike          tables of equal elements are equal
 --   slot-used, -free, is-slots
 --                      what a slot below n holds, what one from n on does, and that this is all there is to it
---   slots-none, -more, -end
---                      a table filled slot by slot: at the start, after one slot more, and at the end
+--   slots-none, -more, -end, -whole
+--                      a table filled slot by slot: at the start, after one slot more, at the end, and where no slot is left
 --   slots-alike        tables that are filled alike are equal
 --   slots-again        a table filled with its own slots is the same table
 use mathlib.Core.Path.{_≡_, refl, sym, ap, ap₂, _∙_}
@@ -99,6 +99,9 @@ module _ {A : Type 0} (f : ℕ → A) (z : A) where
       free j l m =
           let ne : j ≢ i = λ p. omega arith in
           getD-set-other (slots N i) i j (f i) z ne ∙ slot-free N i j z l (omega arith)
+
+  pub slots-whole : (N : ℕ) → slots N N ≡ tab N f
+  slots-whole N = tab-alike N _ f (λ i l. simp (lt-ltb i N l))
 
   pub slots-end : (N i n : ℕ) → i ≤ n → n ≤ i → (l : List A) → l ≡ slots N i → l ≡ slots N n
   slots-end N i n g h l e = let q : n ≡ i = omega arith in rw q e
