@@ -1,2 +1,4 @@
 pub mod Checks
 pub mod Long
+pub mod Steps
+pub mod Lent

@@ -18,6 +18,7 @@
 --                              each check speaks exactly under its condition
 --   rate-, rates-, load-, enough-, capacity-silent
 --                              and is silent exactly elsewhere: of one node or queue, and of all
+--   enough-capacity            a capacity that is enough is not below the minimum
 --   rate-, load-, capacity-only
 --                              and speaks with its own number
 --   analyse-2 to analyse-7, run-8, run-earlier
@@ -30,7 +31,7 @@ use Prim.Native.Nat.{ℕ, zero, suc, _+_, _*_, _^_, _≤_, _<_}
 use native.Mathlib.Nat.{le-refl}
 use native.Mathlib.Omega.{arith}
 use lib.Dec.{ltb, eqb}
-use borrow.Author.Tests.{le-ltb}
+use borrow.Author.Tests.{le-ltb, eq-eqb}
 use lib.ListN.{getD, take}
 use Rattle.words.specs.Table.{tab, tab-alike}
 use Rattle.chain.specs.Tests.{Out, below-true, below-false, differ-true, differ-false, or-true, or-false, and-true, and-false}
@@ -42,7 +43,7 @@ use Rattle.chain.specs.declared.Chain.{Chain}
 use Rattle.onequeue.specs.Capacity.{capacity}
 use Rattle.sizing.specs.Nodes.{xOf, yOf}
 use Rattle.sizing.specs.Load.{busyIn, busyOf, cycleOf}
-use Rattle.sizing.specs.Sizes.{minimumOf, noSize, sizeBy, analysisOf, sized, size-at}
+use Rattle.sizing.specs.Sizes.{minimumOf, capacityOf, noSize, sizeBy, analysisOf, sized, size-at}
 use Rattle.sizing.specs.declared.QueueSize.{QueueSize}
 use Rattle.sizing.specs.declared.Analysis.{Analysis}
 use Rattle.sizing.specs.declared.AnalysisAnswer.{AnalysisAnswer}
@@ -221,6 +222,15 @@ module _ (c : Chain) where
 
       back : FirstShort c L → Lowest (capacityTest c) (c .n) 8 L
       back f = record { at = L; inside = f .queue; says = short-says L L .1 (f .short, refl); before = λ j l. enough-silent j .1 (f .before j l) }
+
+  -- and then the capacity in force is not below the minimum
+  pub enough-capacity : (i : ℕ) → Enough c i → minimumOf (rowOf c i) ≤ capacityOf (rowOf c i)
+  unfolding capacity
+  enough-capacity i = ⊎-elim (λ e. simp (eq-eqb _ _ e) (le-refl _)) (λ l. by (eqb (rowOf c i .capacity) 0) l)
+    where
+      by : (t : Bool) → minimumOf (rowOf c i) ≤ rowOf c i .capacity → minimumOf (rowOf c i) ≤ cond t (minimumOf (rowOf c i)) (rowOf c i .capacity)
+      by true l = le-refl _
+      by false l = l
 
   pub capacity-silent : Silent (capacityCheck c) ↔ ((i : ℕ) → i < c .n → Enough c i)
   unfolding capacityCheck
