@@ -1,12 +1,14 @@
 //! The rules of the library in plain Rust, written from the scope paper alone and sharing nothing
 //! with the library: reading a file, writing a record, the factory chains, the analysis, the
-//! report. The answers have the layout of the C header.
+//! report, manual firing, the immediate run. The answers have the layout of the C header.
 
 mod analysis;
 mod chain;
 mod factory;
 mod file;
+mod immediate;
 mod report;
+mod run;
 
 pub use analysis::{analyse, Analysis, AnalysisAnswer, QueueSize};
 pub use chain::{
@@ -15,4 +17,6 @@ pub use chain::{
 };
 pub use factory::factory;
 pub use file::{read, write, ChainAnswer, LengthAnswer, MAX_FILE};
+pub use immediate::{immediate, MAX_FIRINGS};
 pub use report::report;
+pub use run::{fire, fresh, Run, RunAnswer};
