@@ -1,12 +1,13 @@
 /*
  * ardenquill.h - the calls of the library ardenquill for C and C++: reading and writing chain files, the factory
- * chains, the analysis of a chain and the report on a chain file.
+ * chains, the analysis of a chain, the report on a chain file, manual firing and the immediate run.
  *
  * A chain has nodes N_0 (the source) to N_n (the sink), n from 1 to 16; queue i leads from N_i to N_(i+1).
  *
  * Every call takes any values and comes back. A call that cannot answer refuses: it gives the number of the
- * refusal and its place, all its other results are zero, and it writes nothing. Checks run in the order of
- * their numbers and the first that fails is given. A call that is not refused gives number 0 and place 0.
+ * refusal and its place, all its other results are zero but a run state that was handed in, which comes back as it
+ * was, and it writes nothing. Checks run in the order of their numbers, 17 before 9, and the first that fails is
+ * given. A call that is not refused gives number 0 and place 0.
  *
  * A length of 0 may come with any pointer; else the pointer must lead to that many bytes, which the call may
  * read (a file) or write (an out). A file and an out that are handed to one call must not overlap. No call
@@ -56,10 +57,23 @@ enum ardenquill_refusal {
     ARDENQUILL_RATE_TOO_LARGE = 6,
     /* The nodes have more work in a cycle than it has ticks: the exact sum, busy, is above cycle. Place 0. */
     ARDENQUILL_OVERLOADED = 7,
+    /* A queue's capacity is not 0 and below its minimum. Place: the lowest such queue. */
+    ARDENQUILL_BELOW_MINIMUM = 8,
+    /* The run is too long. Manual firing: the node's count is 4,294,967,295 already; place: that node. An immediate
+     * run: a node would fire more than 1,000,000 times; place: the lowest such node. */
+    ARDENQUILL_TOO_LONG = 9,
     /* The out handed in is shorter than what would be written. Place: the bytes needed. */
     ARDENQUILL_NO_ROOM = 10,
+    /* There is no such node, or the queue before it holds less than its threshold. Place: the node asked. */
+    ARDENQUILL_CANNOT_FIRE = 11,
+    /* The firing would put more into the queue after the node than its capacity in force. Place: that queue. */
+    ARDENQUILL_QUEUE_FULL = 12,
     /* There is no factory chain of that number. Place: the number asked. */
-    ARDENQUILL_NO_FACTORY_CHAIN = 14
+    ARDENQUILL_NO_FACTORY_CHAIN = 14,
+    /* The run state handed in is damaged. Place: the lowest queue that does not hold exactly what its producer's count
+     * put in less what its consumer's count took out, or holds more than its capacity in force, or whose consumer has
+     * as many ticks of work done as its execution time, or more. Tested before 9. */
+    ARDENQUILL_BAD_RUN = 17
 };
 
 /* One queue, as its row in a chain file. */
@@ -89,9 +103,12 @@ struct ardenquill_chain {
 struct ardenquill_queue_size {
     /* The rate of the queue's consumer: x firings in y ticks. The two may have a common divisor. */
     uint32_t x, y;
-    /* The minimum capacity: the largest multiple of gcd(produce, consume) below threshold, plus produce. */
+    /* The minimum capacity: the largest multiple of gcd(produce, consume) below threshold, plus produce. The queue
+     * never holds more when every node is fired as soon as it can, the one nearest the sink first. */
     uint32_t minimum;
-    /* The naming count: (threshold - consume) / produce rounded up, plus consume / gcd(produce, consume). */
+    /* The naming count: (threshold - consume) / produce rounded up, plus consume / gcd(produce, consume). In no order
+     * of firings from a fresh start, each accepted by ardenquill_fire, has the queue's producer fired so often unless
+     * the queue has held at least minimum. It is a bound: the queue may have held that much before. */
     uint32_t by;
     /* The capacity in force: the queue's capacity, or minimum where that is 0. */
     uint32_t capacity;
@@ -110,6 +127,20 @@ struct ardenquill_analysis {
     uint32_t busy, cycle;
 };
 
+/* How far a run of a chain of n queues is. Only the first n slots of held and done and the first n+1 of counts are
+ * looked at. A plain value: a call is handed one and gives the next, and keeps nothing of either. */
+struct ardenquill_run {
+    /* The ticks that have passed. Manual firing and the immediate run leave it alone. */
+    uint32_t clock;
+    /* How often N_i has fired, in slot i; slot 0 is the source's. */
+    uint32_t counts[ARDENQUILL_MAX_QUEUES + 1];
+    /* The tokens that queue i holds, in slot i. */
+    uint32_t held[ARDENQUILL_MAX_QUEUES];
+    /* The ticks of work that N_(i+1) has done on its current firing, in slot i; below its execution time. Manual
+     * firing and the immediate run leave them alone. */
+    uint32_t done[ARDENQUILL_MAX_QUEUES];
+};
+
 /* The answer of a call that gives a chain. */
 struct ardenquill_chain_answer {
     /* The refusal and its place; both 0 when the call was not refused. */
@@ -124,6 +155,15 @@ struct ardenquill_analysis_answer {
     uint32_t number, place;
     /* The analysis; all zero when the call was refused. */
     struct ardenquill_analysis analysis;
+};
+
+/* The answer of a call that gives a run state. */
+struct ardenquill_run_answer {
+    /* The refusal and its place; both 0 when the call was not refused. */
+    uint32_t number, place;
+    /* The run state. When the call was refused: the one that was handed in, every slot as it was; all zero from a call
+     * that is handed none. */
+    struct ardenquill_run run;
 };
 
 /* The answer of a call that writes bytes. */
@@ -166,6 +206,27 @@ struct ardenquill_analysis_answer ardenquill_analyse(struct ardenquill_chain cha
  * length is enough, and ARDENQUILL_MAX_REPORT_LENGTH always is. */
 struct ardenquill_length_answer ardenquill_report(const uint8_t *file, size_t file_length, uint8_t *out,
                                                   size_t out_length);
+
+/* Gives the run state of a fresh start: nothing fired, nothing held, all zero. Refuses with 2, 4, 5, 6, 7, in this
+ * order; the places of 4 and 5 are offsets in the packed file. A capacity below the minimum is no refusal. Writes
+ * nothing. */
+struct ardenquill_run_answer ardenquill_fresh(struct ardenquill_chain chain);
+
+/* Fires one node, i for N_i, and gives the run state after it: the node's count is one more, the queue after the node,
+ * if there is one, holds produce more, and then the queue before it, if there is one, consume less. All else is as it
+ * was: clock, work done, the other nodes and queues, and every slot past n. The source may fire at any time, another
+ * node while the queue before it holds at least its threshold; a queue may be filled to exactly its capacity. Nodes
+ * may be fired in any order, and the capacity in force counts even where it is below the minimum. Refuses with 2, 4,
+ * 5, 6, 7, 17, 9, 11, 12, in this order, and then gives the state that was handed in, every slot as it was; the places
+ * of 4 and 5 are offsets in the packed file. Writes nothing. */
+struct ardenquill_run_answer ardenquill_fire(struct ardenquill_chain chain, struct ardenquill_run run, uint32_t node);
+
+/* Gives the run state after an immediate run: from a fresh start the source fires k times, and every other node as
+ * soon as it can, the one nearest the sink first, also after the last firing of the source; so every queue is left
+ * with less than its threshold. Clock and work done are 0, and so are the slots past n. Refuses with 2, 4, 5, 6, 7, 8,
+ * 9, in this order; the places of 4 and 5 are offsets in the packed file. A count of exactly 1,000,000 is allowed.
+ * Writes nothing. */
+struct ardenquill_run_answer ardenquill_immediate(struct ardenquill_chain chain, uint32_t k);
 
 #ifdef __cplusplus
 }

@@ -9,6 +9,11 @@
  *     f, uint32_t                chain answer              gives a factory chain
  *     a, chain                   analysis answer           analyses the chain
  *     p, memory, memory          length answer, memories   reports on the first that is lent to the second
+ *     s, chain                   run answer                gives the state of a fresh start
+ *     m, chain, run, uint32_t    run answer                fires a node
+ *     h, chain, run, length,     run answers               fires so many nodes one after the other, each from the state
+ *         uint32_t each                                    that the answer before gave
+ *     i, chain, uint32_t         run answer                makes an immediate run
  *     l, chain, length           byte 0, or byte 1, length answer, first bytes, chain answer, length answer,
  *                                first bytes
  *
@@ -131,6 +136,60 @@ static void answer_report(void)
     put_memory(out);
 }
 
+/* Answers s. */
+static void answer_fresh(void)
+{
+    struct ardenquill_chain chain;
+    take(&chain, sizeof chain);
+    struct ardenquill_run_answer answer = ardenquill_fresh(chain);
+    put(&answer, sizeof answer);
+}
+
+/* Answers m. */
+static void answer_fire(void)
+{
+    struct ardenquill_chain chain;
+    take(&chain, sizeof chain);
+    struct ardenquill_run run;
+    take(&run, sizeof run);
+    uint32_t node;
+    take(&node, sizeof node);
+    struct ardenquill_run_answer answer = ardenquill_fire(chain, run, node);
+    put(&answer, sizeof answer);
+}
+
+/* Answers h. */
+static void answer_history(void)
+{
+    struct ardenquill_chain chain;
+    take(&chain, sizeof chain);
+    struct ardenquill_run run;
+    take(&run, sizeof run);
+    uint64_t length;
+    take(&length, sizeof length);
+    uint32_t *nodes = malloc(length * sizeof *nodes);
+    if (nodes == NULL)
+        give_up("no memory");
+    take(nodes, length * sizeof *nodes);
+    for (uint64_t i = 0; i < length; i++) {
+        struct ardenquill_run_answer answer = ardenquill_fire(chain, run, nodes[i]);
+        put(&answer, sizeof answer);
+        run = answer.run;
+    }
+    free(nodes);
+}
+
+/* Answers i. */
+static void answer_immediate(void)
+{
+    struct ardenquill_chain chain;
+    take(&chain, sizeof chain);
+    uint32_t k;
+    take(&k, sizeof k);
+    struct ardenquill_run_answer answer = ardenquill_immediate(chain, k);
+    put(&answer, sizeof answer);
+}
+
 /* Answers l. */
 static void answer_large(void)
 {
@@ -176,6 +235,18 @@ int main(void)
             break;
         case 'p':
             answer_report();
+            break;
+        case 's':
+            answer_fresh();
+            break;
+        case 'm':
+            answer_fire();
+            break;
+        case 'h':
+            answer_history();
+            break;
+        case 'i':
+            answer_immediate();
             break;
         case 'l':
             answer_large();
