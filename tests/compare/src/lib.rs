@@ -1,11 +1,13 @@
 //! What the comparison and the bench share: random numbers, random chains, exact rates, the packed
-//! file of a chain, and the room for a report.
+//! file of a chain, the room for a report, and random run states.
 
 pub mod chains;
 pub mod loaded;
 pub mod packed;
 pub mod random;
 pub mod rates;
+pub mod small;
+pub mod states;
 pub mod steered;
 
 /// The header's room that every report fits, 34 bytes for the first line, 67 for each of 16 queues
