@@ -2,16 +2,19 @@
 //! the other call.
 
 use crate::analysed::Request;
+use crate::firings::{Firing, History};
 use crate::lent::Lent;
 use crate::library::{Large, Library, Lost};
 use crate::plain::Plain;
 use crate::records::Record;
+use crate::run_sights::{Firings, Runs};
+use crate::runs;
 use crate::sights::{Analyses, Reports};
 use crate::tally::Tally;
 use compare::packed::{packed_file, packed_form};
 use compare::random::Random;
 use std::fmt;
-use yardstick::{Chain, ChainAnswer, LengthAnswer, Queue};
+use yardstick::{Chain, ChainAnswer, LengthAnswer, Queue, RunAnswer};
 
 /// The most bytes that are shown of an input or of lent memory.
 const SHOWN: usize = 4_100;
@@ -37,6 +40,8 @@ impl fmt::Display for Difference {
 pub enum Failure {
     /// The library gave something else than was due.
     Differs(Difference),
+    /// What the library gave on the way breaks a promise.
+    Broken(&'static str),
     /// The library gave nothing.
     Lost(Lost),
 }
@@ -150,6 +155,54 @@ pub fn report(
     )
 }
 
+/// Compares a fresh start.
+pub fn fresh(library: &mut Library, seen: &mut Tally, chain: &Chain) -> Result<(), Failure> {
+    let answer = library.fresh(chain)?;
+    let due = yardstick::fresh(chain);
+    seen.count(due.number);
+    same_answer("the answer", &answer, &due)
+}
+
+/// Compares the firing of one node.
+pub fn fire(library: &mut Library, seen: &mut Firings, firing: &Firing) -> Result<(), Failure> {
+    let answer = library.fire(&firing.chain, &firing.run, firing.node)?;
+    let due = yardstick::fire(&firing.chain, firing.run, firing.node);
+    seen.count(firing, &due);
+    same_answer("the answer", &answer, &due)
+}
+
+/// The answers that a history must have.
+pub fn due_answers(history: &History) -> Vec<RunAnswer> {
+    let mut run = history.run;
+    let fire = |&node| {
+        let answer = yardstick::fire(&history.chain, run, node);
+        run = answer.run;
+        answer
+    };
+    history.nodes.iter().map(fire).collect()
+}
+
+/// Compares the firings of a history with the answers that it must have.
+pub fn history(library: &mut Library, history: &History, due: &[RunAnswer]) -> Result<(), Failure> {
+    let answers = library.history(&history.chain, &history.run, &history.nodes)?;
+    for (answer, due) in answers.iter().zip(due) {
+        same_answer("the answer of a firing", answer, due)?;
+    }
+    Ok(())
+}
+
+/// Compares an immediate run.
+pub fn immediate(
+    library: &mut Library,
+    seen: &mut Runs,
+    request: &runs::Request,
+) -> Result<(), Failure> {
+    let answer = library.immediate(&request.chain, request.k)?;
+    let due = yardstick::immediate(&request.chain, request.k);
+    seen.count(request, &due);
+    same_answer("the answer", &answer, &due)
+}
+
 /// Compares what writing a valid chain to large memory gave.
 pub fn write_large(seen: &mut Tally, chain: &Chain, large: &Large) -> Result<(), Failure> {
     let mut due = vec![0; large.first.len()];
@@ -215,7 +268,7 @@ fn read_as(
 }
 
 /// Whether two answers have the same bytes.
-fn same_answer<T: Plain>(what: &'static str, library: &T, due: &T) -> Result<(), Failure> {
+pub fn same_answer<T: Plain>(what: &'static str, library: &T, due: &T) -> Result<(), Failure> {
     same(what, library.bytes(), due.bytes(), decimal)
 }
 

@@ -9,7 +9,9 @@ use std::os::fd::OwnedFd;
 use std::os::unix::net::UnixStream;
 use std::process::{Child, Command};
 use std::time::Duration;
-use yardstick::{packed_length, AnalysisAnswer, Chain, ChainAnswer, LengthAnswer, MAX_QUEUES};
+use yardstick::{
+    packed_length, AnalysisAnswer, Chain, ChainAnswer, LengthAnswer, Run, RunAnswer, MAX_QUEUES,
+};
 
 /// How long the command may take to go on with a request or an answer.
 const PATIENCE: Duration = Duration::from_secs(60);
@@ -127,6 +129,38 @@ impl Library {
         Ok(answer)
     }
 
+    /// The state of a fresh start.
+    pub fn fresh(&mut self, chain: &Chain) -> Result<RunAnswer, Lost> {
+        self.ask(&[b"s", chain.bytes()])?;
+        self.run_answer()
+    }
+
+    /// The state after a firing of one node.
+    pub fn fire(&mut self, chain: &Chain, run: &Run, node: u32) -> Result<RunAnswer, Lost> {
+        self.ask(&[b"m", chain.bytes(), run.bytes(), &node.to_le_bytes()])?;
+        self.run_answer()
+    }
+
+    /// The answers of firing some nodes one after the other, each from the state that the answer
+    /// before gave.
+    pub fn history(
+        &mut self,
+        chain: &Chain,
+        run: &Run,
+        nodes: &[u32],
+    ) -> Result<Vec<RunAnswer>, Lost> {
+        let length = (nodes.len() as u64).to_le_bytes();
+        let words: Vec<u8> = nodes.iter().flat_map(|node| node.to_le_bytes()).collect();
+        self.ask(&[b"h", chain.bytes(), run.bytes(), &length, &words])?;
+        nodes.iter().map(|_| self.run_answer()).collect()
+    }
+
+    /// The state after an immediate run of k source firings.
+    pub fn immediate(&mut self, chain: &Chain, k: u32) -> Result<RunAnswer, Lost> {
+        self.ask(&[b"i", chain.bytes(), &k.to_le_bytes()])?;
+        self.run_answer()
+    }
+
     /// Writes a chain to so many zero bytes, reads them, and reports to them on the chain's packed
     /// file; nothing if they can't be had.
     pub fn large(&mut self, chain: &Chain, length: u64) -> Result<Option<Large>, Lost> {
@@ -149,6 +183,13 @@ impl Library {
         self.take(large.reported.bytes_mut())?;
         self.take(&mut large.text)?;
         Ok(Some(large))
+    }
+
+    /// Takes an answer with a run state.
+    fn run_answer(&mut self) -> Result<RunAnswer, Lost> {
+        let mut answer = RunAnswer::default();
+        self.take(answer.bytes_mut())?;
+        Ok(answer)
     }
 
     /// Sends a request.

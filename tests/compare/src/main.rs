@@ -7,37 +7,53 @@
 mod analysed;
 mod comparison;
 mod files;
+mod firings;
 mod lent;
 mod library;
 mod plain;
 mod records;
+mod run_sights;
+mod runs;
 mod sights;
+mod simulated;
 mod tally;
+mod watch;
 
 use analysed::Request;
 use compare::loaded::accepted;
 use compare::random::Random;
-use comparison::{decimal, hex, Failure};
+use compare::small::small;
+use comparison::{decimal, due_answers, hex, Failure};
+use firings::{Firing, History};
 use library::{Library, Lost};
 use plain::Plain;
 use records::Record;
+use run_sights::{Firings, Runs};
 use sights::{Analyses, Reports};
 use std::env;
 use std::ffi::OsString;
 use std::process::ExitCode;
 use tally::Tally;
+use watch::Watch;
 use yardstick::{packed_length, Chain, MAX_QUEUES};
 
 /// The seed of a run that is given none.
 const SEED: u64 = 1;
 
 /// The random files, records and factory numbers of a run, the chains that are analysed and
-/// reported on, and the files that are reported on with any room.
+/// reported on, and the files that are reported on with any room; the fresh starts, the single
+/// firings, the walks on a chain of each n, the immediate runs, and the small chains that are
+/// watched.
 const FILES: usize = 300_000;
 const RECORDS: usize = 250_000;
 const FACTORY_NUMBERS: usize = 20_000;
 const ANALYSES: usize = 240_000;
 const REPORTS: usize = 160_000;
+const FRESH_STARTS: usize = 16_000;
+const FIRINGS: usize = 120_000;
+const WALKS: usize = 4;
+const IMMEDIATE_RUNS: usize = 32_000;
+const WATCHED: usize = 2_000;
 
 /// The fewest inputs that make a run.
 const FEWEST: u64 = 1_000_000;
@@ -57,6 +73,10 @@ struct Run {
     factories: Tally,
     analyses: Analyses,
     reports: Reports,
+    fresh_starts: Tally,
+    firings: Firings,
+    runs: Runs,
+    watched: Tally<&'static str>,
     passed: u64,
     failed: u64,
 }
@@ -72,6 +92,10 @@ impl Run {
             factories: Tally::default(),
             analyses: Analyses::default(),
             reports: Reports::default(),
+            fresh_starts: Tally::default(),
+            firings: Firings::default(),
+            runs: Runs::default(),
+            watched: Tally::default(),
             passed: 0,
             failed: 0,
         }
@@ -96,6 +120,11 @@ impl Run {
         self.compare_factories()?;
         self.compare_analyses()?;
         self.compare_reports()?;
+        self.compare_fresh_starts()?;
+        self.compare_firings()?;
+        self.compare_walks()?;
+        self.compare_runs()?;
+        self.watch_small()?;
         self.compare_large()
     }
 
@@ -219,6 +248,86 @@ impl Run {
         })
     }
 
+    /// Compares the fresh start on chains.
+    fn compare_fresh_starts(&mut self) -> Result<(), Lost> {
+        for i in 0..FRESH_STARTS {
+            let chain = analysed::any(&mut self.random, 1 + i % MAX_QUEUES);
+            let result = comparison::fresh(&mut self.library, &mut self.fresh_starts, &chain);
+            self.settle(result, || format!("fresh: {}", decimal(chain.bytes())))?;
+        }
+        Ok(())
+    }
+
+    /// Compares the firing of one node.
+    fn compare_firings(&mut self) -> Result<(), Lost> {
+        for firing in firings::limits(&mut self.random) {
+            self.compare_firing(&firing)?;
+        }
+        for i in 0..FIRINGS {
+            let firing = firings::any(&mut self.random, 1 + i % MAX_QUEUES);
+            self.compare_firing(&firing)?;
+        }
+        Ok(())
+    }
+
+    /// Compares one firing.
+    fn compare_firing(&mut self, firing: &Firing) -> Result<(), Lost> {
+        let result = comparison::fire(&mut self.library, &mut self.firings, firing);
+        self.settle(result, || {
+            let (chain, run) = (decimal(firing.chain.bytes()), decimal(firing.run.bytes()));
+            format!("fire, node {}, run {run}: {chain}", firing.node)
+        })
+    }
+
+    /// Compares the firings of walks, each on one chain.
+    fn compare_walks(&mut self) -> Result<(), Lost> {
+        for i in 0..WALKS * MAX_QUEUES {
+            let walk = firings::walk(&mut self.random, 1 + i % MAX_QUEUES);
+            let due: Vec<_> = walk.iter().map(due_answers).collect();
+            for (history, due) in walk.iter().zip(&due) {
+                let result = comparison::history(&mut self.library, history, due);
+                self.settle(result, || history_input(history))?;
+            }
+            self.firings.count_walk(&due);
+        }
+        Ok(())
+    }
+
+    /// Compares the immediate run.
+    fn compare_runs(&mut self) -> Result<(), Lost> {
+        for request in runs::limits(&mut self.random) {
+            self.compare_run(&request)?;
+        }
+        for request in runs::large(&mut self.random) {
+            self.compare_run(&request)?;
+        }
+        for i in 0..IMMEDIATE_RUNS {
+            let request = runs::any(&mut self.random, 1 + i % MAX_QUEUES);
+            self.compare_run(&request)?;
+        }
+        Ok(())
+    }
+
+    /// Compares one immediate run.
+    fn compare_run(&mut self, request: &runs::Request) -> Result<(), Lost> {
+        let result = comparison::immediate(&mut self.library, &mut self.runs, request);
+        self.settle(result, || {
+            let chain = decimal(request.chain.bytes());
+            format!("immediate, k {}: {chain}", request.k)
+        })
+    }
+
+    /// Watches the firings of small chains.
+    fn watch_small(&mut self) -> Result<(), Lost> {
+        for i in 0..WATCHED {
+            let chain = small(&mut self.random, 1 + i % 4);
+            let result = Watch::new(&mut self.library, &mut self.watched, &chain)
+                .and_then(|mut watch| watch.all(&mut self.random));
+            self.settle(result, || format!("watch: {}", decimal(chain.bytes())))?;
+        }
+        Ok(())
+    }
+
     /// Compares reader, writer and report on lent memory whose length, cut to 32 bits, would be
     /// that of a packed file.
     fn compare_large(&mut self) -> Result<(), Lost> {
@@ -258,6 +367,13 @@ impl Run {
                     println!("{difference}");
                 }
             }
+            Err(Failure::Broken(promise)) => {
+                self.failed += 1;
+                if self.failed <= SHOWN {
+                    println!("failed: {}", input());
+                    println!("  broken: {promise}");
+                }
+            }
             Err(Failure::Lost(lost)) => {
                 println!("lost: {}", input());
                 return Err(lost);
@@ -277,6 +393,10 @@ impl Run {
         ];
         lines.extend(self.analyses.lines());
         lines.extend(self.reports.lines());
+        lines.push(self.fresh_starts.line("fresh", [0, 2, 4, 5, 6, 7]));
+        lines.extend(self.firings.lines());
+        lines.extend(self.runs.lines());
+        lines.push(self.watched.line("watch", watch::SIGHTS));
         for line in lines {
             println!("{}: {}", line.name, line.seen);
             for missing in line.missing {
@@ -293,6 +413,13 @@ impl Run {
             self.failed += 1;
         }
     }
+}
+
+/// A history as it is shown.
+fn history_input(history: &History) -> String {
+    let (chain, run) = (decimal(history.chain.bytes()), decimal(history.run.bytes()));
+    let nodes: Vec<String> = history.nodes.iter().map(u32::to_string).collect();
+    format!("fire, nodes {}, run {run}: {chain}", nodes.join(" "))
 }
 
 /// The seed and the command that the arguments give.

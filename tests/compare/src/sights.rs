@@ -230,7 +230,7 @@ impl Reports {
 }
 
 /// Counts those names that are marked.
-fn count_all<const COUNT: usize>(
+pub fn count_all<const COUNT: usize>(
     tally: &mut Tally<&'static str>,
     names: [&'static str; COUNT],
     marks: [bool; COUNT],
