@@ -31,6 +31,11 @@
     OFFSET(ardenquill_analysis, queues, 4)            \
     OFFSET(ardenquill_analysis, busy, 388)            \
     OFFSET(ardenquill_analysis, cycle, 392)           \
+    SIZE(ardenquill_run, 200)                         \
+    OFFSET(ardenquill_run, clock, 0)                  \
+    OFFSET(ardenquill_run, counts, 4)                 \
+    OFFSET(ardenquill_run, held, 72)                  \
+    OFFSET(ardenquill_run, done, 136)                 \
     SIZE(ardenquill_chain_answer, 400)                \
     OFFSET(ardenquill_chain_answer, number, 0)        \
     OFFSET(ardenquill_chain_answer, place, 4)         \
@@ -39,6 +44,10 @@
     OFFSET(ardenquill_analysis_answer, number, 0)     \
     OFFSET(ardenquill_analysis_answer, place, 4)      \
     OFFSET(ardenquill_analysis_answer, analysis, 8)   \
+    SIZE(ardenquill_run_answer, 208)                  \
+    OFFSET(ardenquill_run_answer, number, 0)          \
+    OFFSET(ardenquill_run_answer, place, 4)           \
+    OFFSET(ardenquill_run_answer, run, 8)             \
     SIZE(ardenquill_length_answer, 16)                \
     OFFSET(ardenquill_length_answer, number, 0)       \
     OFFSET(ardenquill_length_answer, place, 4)        \
@@ -129,6 +138,10 @@ static const struct ardenquill_analysis sixteen_sizes = {
      {43046721, 3932160000u, 7820, 24, 7500, -320}},
     1808355498,
     3932160000u};
+
+/* A chain whose nodes all fire equally often, and one whose only node fires a thousand times as often as the source. */
+static const struct short_chain even = {2, 10, {{5, 5, 5, 0, 0}, {7, 14, 7, 0, 0}}, {1, 1}};
+static const struct short_chain thousandfold = {1, 1000, {{1000, 1, 1, 0, 0}}, {1}};
 
 /* Feed as a packed file: the header, the queue row, the node row. */
 static const uint32_t feed_file[] = {1, 10, 20, 40, 44, 4, 7, 3, 0, 0, 2};
@@ -333,6 +346,55 @@ static void check_analysis_refused(const char *what, struct ardenquill_chain cha
     struct ardenquill_analysis zero;
     memset(&zero, 0, sizeof zero);
     check_analysis_answer(what, ardenquill_analyse(chain), number, place, zero);
+}
+
+/* A run state in short, all other slots zero: what the first nodes have fired and what the first queues hold. */
+static struct ardenquill_run run_of(uint32_t source, uint32_t first, uint32_t second, uint32_t queue_0,
+                                    uint32_t queue_1)
+{
+    struct ardenquill_run run;
+    memset(&run, 0, sizeof run);
+    run.counts[0] = source;
+    run.counts[1] = first;
+    run.counts[2] = second;
+    run.held[0] = queue_0;
+    run.held[1] = queue_1;
+    return run;
+}
+
+/* Checks every field of a run state, the slots past n too. */
+static void check_run(const char *what, struct ardenquill_run got, struct ardenquill_run due)
+{
+    check(got.clock == due.clock, "%s: clock", what);
+    for (int i = 0; i <= ARDENQUILL_MAX_QUEUES; i++)
+        check(got.counts[i] == due.counts[i], "%s: count of node %d", what, i);
+    for (int i = 0; i < ARDENQUILL_MAX_QUEUES; i++) {
+        check(got.held[i] == due.held[i], "%s: held by queue %d", what, i);
+        check(got.done[i] == due.done[i], "%s: work done by node %d", what, i + 1);
+    }
+}
+
+/* Checks the number and place of an answer and every field of its run state. */
+static void check_run_answer(const char *what, struct ardenquill_run_answer got, uint32_t number, uint32_t place,
+                             struct ardenquill_run due)
+{
+    check(got.number == number, "%s: number", what);
+    check(got.place == place, "%s: place", what);
+    check_run(what, got.run, due);
+}
+
+/* Checks that a firing is refused and that the run state comes back as it was. */
+static void check_fire_refused(const char *what, struct ardenquill_chain chain, struct ardenquill_run run,
+                               uint32_t node, uint32_t number, uint32_t place)
+{
+    check_run_answer(what, ardenquill_fire(chain, run, node), number, place, run);
+}
+
+/* Checks that an immediate run is refused, and that the answer is zero but for number and place. */
+static void check_immediate_refused(const char *what, struct ardenquill_chain chain, uint32_t k, uint32_t number,
+                                    uint32_t place)
+{
+    check_run_answer(what, ardenquill_immediate(chain, k), number, place, run_of(0, 0, 0, 0, 0));
 }
 
 /* Checks a report that has less room, exact room and ample room, and that the file stays as it is. */
@@ -613,6 +675,194 @@ static void check_edges(const char *what, struct ardenquill_chain chain)
     }
 }
 
+/* Checks that a chain is refused by every call that fires, whatever the run state: a state that is handed in comes back
+ * as it was, though it is damaged too. */
+static void check_runs_refused(const char *what, struct ardenquill_chain chain, uint32_t number, uint32_t place)
+{
+    struct ardenquill_run run;
+    memset(&run, UNTOUCHED, sizeof run);
+    check_run_answer(what, ardenquill_fresh(chain), number, place, run_of(0, 0, 0, 0, 0));
+    check_fire_refused(what, chain, run, 0, number, place);
+    check_fire_refused(what, chain, run, UINT32_MAX, number, place);
+    check_immediate_refused(what, chain, 1, number, place);
+    check_immediate_refused(what, chain, UINT32_MAX, number, place);
+}
+
+/* Checks each number that all three refuse a chain with. */
+static void check_run_refusals(void)
+{
+    struct ardenquill_chain chain = chain_of(&feed);
+    chain.n = 0;
+    check_runs_refused("run n 0", chain, ARDENQUILL_BAD_COUNT, 0);
+    chain.n = 17;
+    check_runs_refused("run n 17", chain, ARDENQUILL_BAD_COUNT, 0);
+    chain = chain_of(&feed);
+    chain.period = 0;
+    check_runs_refused("run period 0", chain, ARDENQUILL_BAD_FIELD, 4);
+    chain = chain_of(&permeate);
+    chain.queues[1].consume = 5;
+    check_runs_refused("run consume above threshold", chain, ARDENQUILL_BAD_CONSUME, 48);
+    check_runs_refused("run y one too large", chain_of(&y_too_large), ARDENQUILL_RATE_TOO_LARGE, 1);
+    check_runs_refused("run two ticks too much work", chain_of(&overfull), ARDENQUILL_OVERLOADED, 0);
+}
+
+/* Checks the paper's immediate runs of Feed: after k firings of the source the sink has fired 0, 0, 1, 2, 4 times. */
+static void check_feed_immediate(void)
+{
+    static const uint32_t sink[] = {0, 0, 1, 2, 4};
+    char name[32];
+    for (uint32_t k = 0; k < 5; k++) {
+        snprintf(name, sizeof name, "Feed immediate, k %d", (int)k);
+        check_run_answer(name, ardenquill_immediate(chain_of(&feed), k), 0, 0,
+                         run_of(k, sink[k], 0, 4 * k - 3 * sink[k], 0));
+    }
+    check(ardenquill_immediate(chain_of(&feed), 4).run.held[0] == 4, "Feed immediate, k 4: held 4");
+}
+
+/* Checks immediate runs of two queues, with garbage past n, of the greatest length, and the numbers they refuse with
+ * after those of the analysis. */
+static void check_immediate(void)
+{
+    struct ardenquill_chain chain = chain_of(&permeate);
+    check_run_answer("Permeate immediate", ardenquill_immediate(chain, 3), 0, 0, run_of(3, 2, 2, 6, 2));
+    memset(&chain.queues[2], UNTOUCHED, sizeof chain.queues[2]);
+    memset(&chain.work[2], UNTOUCHED, sizeof chain.work[2]);
+    check_run_answer("Permeate immediate with garbage", ardenquill_immediate(chain, 4), 0, 0, run_of(4, 4, 5, 4, 2));
+    check_run_answer("Flush immediate", ardenquill_immediate(chain_of(&flush), 11), 0, 0, run_of(11, 8, 1, 48, 0));
+
+    check_run_answer("longest by the source", ardenquill_immediate(chain_of(&even), 1000000), 0, 0,
+                     run_of(1000000, 1000000, 999999, 0, 7));
+    check_immediate_refused("too long by the source", chain_of(&even), 1000001, ARDENQUILL_TOO_LONG, 0);
+    check_immediate_refused("far too long", chain_of(&even), UINT32_MAX, ARDENQUILL_TOO_LONG, 0);
+    check_run_answer("longest by the sink", ardenquill_immediate(chain_of(&thousandfold), 1000), 0, 0,
+                     run_of(1000, 1000000, 0, 0, 0));
+    check_immediate_refused("too long by the sink", chain_of(&thousandfold), 1001, ARDENQUILL_TOO_LONG, 1);
+
+    check_immediate_refused("capacity below minimum", chain_of(&roomy), 0, ARDENQUILL_BELOW_MINIMUM, 1);
+    check_immediate_refused("capacity below minimum, too long", chain_of(&roomy), UINT32_MAX,
+                            ARDENQUILL_BELOW_MINIMUM, 1);
+    chain = chain_of(&roomy);
+    chain.queues[1].capacity = 6;
+    check_run_answer("capacity at the minimum", ardenquill_immediate(chain, 3), 0, 0, run_of(3, 2, 2, 6, 2));
+}
+
+/* Fires a node as a user does: the state becomes the one that the call gives. */
+static void check_fire(const char *what, struct ardenquill_chain chain, struct ardenquill_run *run, uint32_t node,
+                       struct ardenquill_run due)
+{
+    struct ardenquill_run_answer answer = ardenquill_fire(chain, *run, node);
+    char name[64];
+    snprintf(name, sizeof name, "%s, node %lu", what, (unsigned long)node);
+    due.clock = run->clock;
+    memcpy(due.done, run->done, sizeof due.done);
+    check_run_answer(name, answer, 0, 0, due);
+    *run = answer.run;
+}
+
+/* Checks a walk on Permeate from a fresh start, with what is refused on the way, and a walk with capacities of its own,
+ * one of them below the minimum. */
+static void check_walks(void)
+{
+    struct ardenquill_chain chain = chain_of(&permeate);
+    struct ardenquill_run_answer fresh = ardenquill_fresh(chain);
+    check_run_answer("fresh", fresh, 0, 0, run_of(0, 0, 0, 0, 0));
+
+    struct ardenquill_run run = fresh.run;
+    check_fire_refused("first node of an empty chain", chain, run, 1, ARDENQUILL_CANNOT_FIRE, 1);
+    check_fire_refused("sink of an empty chain", chain, run, 2, ARDENQUILL_CANNOT_FIRE, 2);
+    check_fire_refused("node 3 of 2", chain, run, 3, ARDENQUILL_CANNOT_FIRE, 3);
+    check_fire_refused("node 4294967295", chain, run, UINT32_MAX, ARDENQUILL_CANNOT_FIRE, UINT32_MAX);
+    check_fire("walk", chain, &run, 0, run_of(1, 0, 0, 4, 0));
+    check_fire_refused("three tokens below threshold", chain, run, 1, ARDENQUILL_CANNOT_FIRE, 1);
+    check_fire("walk", chain, &run, 0, run_of(2, 0, 0, 8, 0));
+    check_fire_refused("two tokens too many", chain, run, 0, ARDENQUILL_QUEUE_FULL, 0);
+    check_fire("walk", chain, &run, 1, run_of(2, 1, 0, 5, 3));
+    check_fire("walk", chain, &run, 0, run_of(3, 1, 0, 9, 3));
+    check_fire("walk to exactly full", chain, &run, 1, run_of(3, 2, 0, 6, 6));
+    check_fire("walk to exactly full", chain, &run, 0, run_of(4, 2, 0, 10, 6));
+    check_fire_refused("no room behind the first node", chain, run, 1, ARDENQUILL_QUEUE_FULL, 1);
+    check_fire("walk", chain, &run, 2, run_of(4, 2, 1, 10, 4));
+    check_fire("walk at exactly the threshold", chain, &run, 2, run_of(4, 2, 2, 10, 2));
+    check_fire("walk", chain, &run, 1, run_of(4, 3, 2, 7, 5));
+    check_fire("walk", chain, &run, 2, run_of(4, 3, 3, 7, 3));
+    check_fire("walk at exactly the threshold", chain, &run, 1, run_of(4, 4, 3, 4, 6));
+
+    chain = chain_of(&roomy);
+    run = ardenquill_fresh(chain).run;
+    check_fire("own capacities", chain, &run, 0, run_of(1, 0, 0, 4, 0));
+    check_fire("own capacities", chain, &run, 0, run_of(2, 0, 0, 8, 0));
+    check_fire("own capacities", chain, &run, 0, run_of(3, 0, 0, 12, 0));
+    check_fire_refused("above the own capacity", chain, run, 0, ARDENQUILL_QUEUE_FULL, 0);
+    check_fire("own capacities", chain, &run, 1, run_of(3, 1, 0, 9, 3));
+    check_fire_refused("above a capacity below the minimum", chain, run, 1, ARDENQUILL_QUEUE_FULL, 1);
+}
+
+/* Checks that clock, work done and slots past n are left as they are, fired or refused, and that garbage past n is not
+ * looked at. */
+static void check_untouched_slots(void)
+{
+    struct ardenquill_chain chain = chain_of(&permeate);
+    chain.period = 10;
+    chain.work[0] = 3;
+    struct ardenquill_run run;
+    memset(&run, UNTOUCHED, sizeof run);
+    run.counts[0] = 2;
+    run.counts[1] = run.counts[2] = 0;
+    run.held[0] = 8;
+    run.held[1] = 0;
+    run.done[0] = 2;
+    run.done[1] = 0;
+    struct ardenquill_run due = run;
+    due.counts[1] = 1;
+    due.held[0] = 5;
+    due.held[1] = 3;
+    check_run_answer("fire with garbage", ardenquill_fire(chain, run, 1), 0, 0, due);
+    check_fire_refused("garbage, queue full", chain, run, 0, ARDENQUILL_QUEUE_FULL, 0);
+    check_fire_refused("garbage, no such node", chain, run, 3, ARDENQUILL_CANNOT_FIRE, 3);
+    run.done[0] = 3;
+    check_fire_refused("garbage, damaged", chain, run, 1, ARDENQUILL_BAD_RUN, 0);
+}
+
+/* Checks the reasons for which a run state is damaged, and that the lowest queue is the place. */
+static void check_damaged(void)
+{
+    const struct ardenquill_chain chain = chain_of(&permeate);
+    struct ardenquill_run run = run_of(2, 0, 0, 8, 0);
+    run.held[0] = 7;
+    check_fire_refused("a token lost", chain, run, 0, ARDENQUILL_BAD_RUN, 0);
+    run.held[0] = 9;
+    check_fire_refused("a token gained", chain, run, 1, ARDENQUILL_BAD_RUN, 0);
+    check_fire_refused("three firings held", chain, run_of(3, 0, 0, 12, 0), 1, ARDENQUILL_BAD_RUN, 0);
+    check_fire_refused("a token gained behind", chain, run_of(2, 1, 0, 5, 4), 0, ARDENQUILL_BAD_RUN, 1);
+    check_fire_refused("no such node of a damaged run", chain, run_of(2, 1, 0, 5, 4), 3, ARDENQUILL_BAD_RUN, 1);
+    check_fire_refused("both damaged", chain, run_of(2, 1, 0, 6, 4), 2, ARDENQUILL_BAD_RUN, 0);
+    check_fire_refused("balanced in 32 bits", chain, run_of(1073741824, 0, 0, 0, 0), 0, ARDENQUILL_BAD_RUN, 0);
+    check_fire_refused("a negative balance", chain, run_of(0, 1, 0, 4294967293u, 3), 0, ARDENQUILL_BAD_RUN, 0);
+    run = run_of(2, 1, 0, 5, 3);
+    run.done[1] = 1;
+    check_fire_refused("work done", chain, run, 0, ARDENQUILL_BAD_RUN, 1);
+    run.done[0] = UINT32_MAX;
+    check_fire_refused("work done by both", chain, run, 0, ARDENQUILL_BAD_RUN, 0);
+}
+
+/* Checks firings up to the last count: 9 comes before 11 and 12, and after 17. */
+static void check_last_counts(void)
+{
+    const struct ardenquill_chain chain = chain_of(&even);
+    const uint32_t last = UINT32_MAX;
+    struct ardenquill_run run = run_of(last - 1, last - 1, last - 3, 0, 14);
+    check_fire("last", chain, &run, 0, run_of(last, last - 1, last - 3, 5, 14));
+    check_fire_refused("source's last, no room", chain, run, 0, ARDENQUILL_TOO_LONG, 0);
+    check_fire("last", chain, &run, 2, run_of(last, last - 1, last - 2, 5, 7));
+    check_fire("last", chain, &run, 1, run_of(last, last, last - 2, 0, 14));
+    check_fire_refused("source's last", chain, run, 0, ARDENQUILL_TOO_LONG, 0);
+    check_fire_refused("first node's last, below threshold, no room", chain, run, 1, ARDENQUILL_TOO_LONG, 1);
+    check_fire("last", chain, &run, 2, run_of(last, last, last - 1, 0, 7));
+    check_fire_refused("sink below threshold", chain, run, 2, ARDENQUILL_CANNOT_FIRE, 2);
+    run.held[1] = 8;
+    check_fire_refused("source's last of a damaged run", chain, run, 0, ARDENQUILL_BAD_RUN, 1);
+}
+
 int main(void)
 {
     LAYOUT(SIZE_CHECKED, OFFSET_CHECKED)
@@ -634,6 +884,13 @@ int main(void)
     check_moved_tables();
     check_edges("Feed", chain_of(&feed));
     check_edges("Permeate", chain_of(&permeate));
+    check_run_refusals();
+    check_feed_immediate();
+    check_immediate();
+    check_walks();
+    check_untouched_slots();
+    check_damaged();
+    check_last_counts();
     printf("%d passed, %d failed\n", passed, failed);
     return failed != 0;
 }
