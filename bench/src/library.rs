@@ -1,6 +1,6 @@
 //! The library's calls that are measured: as the header declares them, and as Rust functions.
 
-use yardstick::{AnalysisAnswer, Chain, ChainAnswer, LengthAnswer};
+use yardstick::{AnalysisAnswer, Chain, ChainAnswer, LengthAnswer, Run, RunAnswer};
 
 extern "C" {
     pub fn ardenquill_read(file: *const u8, file_length: usize) -> ChainAnswer;
@@ -12,6 +12,8 @@ extern "C" {
         out: *mut u8,
         out_length: usize,
     ) -> LengthAnswer;
+    pub fn ardenquill_fire(chain: Chain, run: Run, node: u32) -> RunAnswer;
+    pub fn ardenquill_immediate(chain: Chain, k: u32) -> RunAnswer;
 }
 
 /// The chain of a file.
@@ -37,4 +39,16 @@ pub fn report(file: &[u8], out: &mut [u8]) -> LengthAnswer {
     // SAFETY: pointers and lengths are those of two slices, of which the call only reads the first
     // and is lent the second.
     unsafe { ardenquill_report(file.as_ptr(), file.len(), out.as_mut_ptr(), out.len()) }
+}
+
+/// The state after a firing of one node.
+pub fn fire(chain: &Chain, run: Run, node: u32) -> RunAnswer {
+    // SAFETY: the call takes any chain, state and node.
+    unsafe { ardenquill_fire(*chain, run, node) }
+}
+
+/// The state after an immediate run of k source firings.
+pub fn immediate(chain: &Chain, k: u32) -> RunAnswer {
+    // SAFETY: the call takes any chain and number.
+    unsafe { ardenquill_immediate(*chain, k) }
 }

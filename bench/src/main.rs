@@ -1,28 +1,53 @@
-//! Measures reading, writing, analysing and reporting: nanoseconds per call of the library and of
-//! the yardstick, and their ratio, on the same inputs in one run.
+//! Measures reading, writing, analysing, reporting, firing and running: nanoseconds per call of the
+//! library and of the yardstick, and their ratio, on the same inputs in one run.
 
 mod library;
 
-use compare::chains::valid;
+use compare::chains::{valid, within};
 use compare::loaded::accepted;
 use compare::packed::packed_file;
 use compare::random::Random;
+use compare::states::{nearly_planned, Plan};
 use compare::MAX_REPORT_LENGTH;
-use library::{ardenquill_analyse, ardenquill_read, ardenquill_report, ardenquill_write};
+use library::{
+    ardenquill_analyse, ardenquill_fire, ardenquill_immediate, ardenquill_read, ardenquill_report,
+    ardenquill_write,
+};
 use std::fmt::Debug;
 use std::hint::black_box;
 use std::slice;
 use std::time::Instant;
-use yardstick::{packed_length, AnalysisAnswer, Chain, ChainAnswer, LengthAnswer, MAX_QUEUES};
+use yardstick::{
+    packed_length, AnalysisAnswer, Chain, ChainAnswer, LengthAnswer, Queue, Run, RunAnswer,
+    MAX_FIRINGS, MAX_QUEUES, TICKS,
+};
 
 /// The different inputs of one line, called one after the other in a ring.
 const INPUTS: usize = 64;
 
-/// How often a round goes through the ring.
-const TURNS: usize = 32;
+/// How a line is measured.
+struct Effort {
+    /// The different inputs of the ring.
+    inputs: usize,
+    /// How often a round goes through the ring.
+    turns: usize,
+    /// The rounds of each side, of which the best counts.
+    rounds: usize,
+}
 
-/// The rounds of each side, of which the best counts.
-const ROUNDS: usize = 300;
+/// The effort for calls that take less than microseconds.
+const SHORT: Effort = Effort {
+    inputs: INPUTS,
+    turns: 32,
+    rounds: 300,
+};
+
+/// The effort for calls that take milliseconds.
+const LONG: Effort = Effort {
+    inputs: 2,
+    turns: 1,
+    rounds: 20,
+};
 
 /// The call that reads a file.
 type Read = unsafe extern "C" fn(*const u8, usize) -> ChainAnswer;
@@ -35,6 +60,12 @@ type Analyse = unsafe extern "C" fn(Chain) -> AnalysisAnswer;
 
 /// The call that reports on a file.
 type Report = unsafe extern "C" fn(*const u8, usize, *mut u8, usize) -> LengthAnswer;
+
+/// The call that fires a node.
+type Fire = unsafe extern "C" fn(Chain, Run, u32) -> RunAnswer;
+
+/// The call that makes an immediate run.
+type Immediate = unsafe extern "C" fn(Chain, u32) -> RunAnswer;
 
 /// The yardstick's reader behind the same boundary as the library's. The bytes must be readable.
 #[inline(never)]
@@ -69,6 +100,18 @@ unsafe extern "C" fn yardstick_report(
 ) -> LengthAnswer {
     let file = slice::from_raw_parts(file, file_length);
     yardstick::report(file, slice::from_raw_parts_mut(out, out_length))
+}
+
+/// The yardstick's firing behind the same boundary as the library's.
+#[inline(never)]
+unsafe extern "C" fn yardstick_fire(chain: Chain, run: Run, node: u32) -> RunAnswer {
+    yardstick::fire(&chain, run, node)
+}
+
+/// The yardstick's immediate run behind the same boundary as the library's.
+#[inline(never)]
+unsafe extern "C" fn yardstick_immediate(chain: Chain, k: u32) -> RunAnswer {
+    yardstick::immediate(&chain, k)
 }
 
 /// Random valid chains of n queues.
@@ -111,6 +154,51 @@ fn report_lengths(files: &[Vec<u8>]) -> Vec<usize> {
     files.iter().map(|file| length(file) as usize).collect()
 }
 
+/// Random chains of n queues, states in the middle of a run, and nodes that may fire then.
+fn firings(random: &mut Random, n: usize) -> Vec<(Chain, Run, u32)> {
+    let mut firings = Vec::with_capacity(INPUTS);
+    while firings.len() < INPUTS {
+        let chain = accepted(random, n);
+        let node = random.below(n + 1);
+        let plan = Plan::sound(&chain, node, within(random, 1_000..=1_000_000));
+        let Some(run) = nearly_planned(random, &chain, &plan) else {
+            continue;
+        };
+        if yardstick::fire(&chain, run, node as u32).number == 0 {
+            firings.push((chain, run, node as u32));
+        }
+    }
+    firings
+}
+
+/// Random accepted chains of n queues all of whose nodes fire about as often as the source: of four
+/// queues two leave the rate as it is, the third slows it to three quarters and the fourth brings
+/// it back, unless it is the last.
+fn even_chains(random: &mut Random, n: usize) -> Vec<Chain> {
+    let chain = |_| {
+        let mut chain = Chain {
+            n: n as u32,
+            period: *TICKS.end(),
+            ..Chain::default()
+        };
+        for (i, queue) in chain.queues[..n].iter_mut().enumerate() {
+            let unit = within(random, 1..=1_000);
+            let [produce, consume] = [[1, 1], [1, 1], [3, 4], [4, 3]][i % 4];
+            let consume = consume * unit;
+            *queue = Queue {
+                produce: produce * unit,
+                threshold: consume * within(random, 1..=3) + within(random, 0..=unit),
+                consume,
+                capacity: 0,
+                reserved: 0,
+            };
+        }
+        chain.work[..n].fill(1);
+        chain
+    };
+    (0..LONG.inputs).map(chain).collect()
+}
+
 /// The answer that library and yardstick both give.
 fn same<T: PartialEq + Debug>(library: T, yardstick: T) -> T {
     assert_eq!(library, yardstick, "library and yardstick differ");
@@ -129,7 +217,7 @@ fn read_line(name: &str, files: &[Vec<u8>], number: u32) {
         due(answer.number, number);
     }
     let calls = [ardenquill_read as Read, yardstick_read];
-    line("read", name, |side| {
+    line("read", name, SHORT, |side| {
         for file in files {
             let file = black_box(file.as_slice());
             // SAFETY: pointer and length are those of a slice, which the call only reads.
@@ -151,7 +239,7 @@ fn write_line(name: &str, chains: &[Chain], lacking: usize, number: u32) {
         due(answer.number, number);
     }
     let calls = [ardenquill_write as Write, yardstick_write];
-    line("write", name, |side| {
+    line("write", name, SHORT, |side| {
         for chain in chains {
             let out = black_box(out.as_mut_slice());
             // SAFETY: pointer and length are those of a slice that is lent for the call.
@@ -168,7 +256,7 @@ fn analyse_line(name: &str, chains: &[Chain]) {
         due(answer.number, 0);
     }
     let calls = [ardenquill_analyse as Analyse, yardstick_analyse];
-    line("analyse", name, |side| {
+    line("analyse", name, SHORT, |side| {
         for chain in chains {
             // SAFETY: the call takes any chain.
             let answer = unsafe { calls[side](*black_box(chain)) };
@@ -190,7 +278,7 @@ fn report_line(name: &str, files: &[Vec<u8>], rooms: &[usize]) {
     }
     let [out, _] = &mut texts;
     let calls = [ardenquill_report as Report, yardstick_report];
-    line("report", name, |side| {
+    line("report", name, SHORT, |side| {
         for (file, &room) in files.iter().zip(rooms) {
             let (file, out) = (black_box(file.as_slice()), black_box(&mut out[..room]));
             let (lent, room) = (out.as_mut_ptr(), out.len());
@@ -202,22 +290,59 @@ fn report_line(name: &str, files: &[Vec<u8>], rooms: &[usize]) {
     });
 }
 
-/// Prints one line, given what goes once through the ring on a side: 0 library, 1 yardstick. The
-/// sides take turns, and so does who begins.
-fn line(call: &str, name: &str, mut ring: impl FnMut(usize)) {
+/// Prints the line of some firings, each of which must be accepted.
+fn fire_line(name: &str, firings: &[(Chain, Run, u32)]) {
+    for &(chain, run, node) in firings {
+        let answer = same(
+            library::fire(&chain, run, node),
+            yardstick::fire(&chain, run, node),
+        );
+        due(answer.number, 0);
+    }
+    let calls = [ardenquill_fire as Fire, yardstick_fire];
+    line("fire", name, SHORT, |side| {
+        for firing in firings {
+            let (chain, run, node) = black_box(firing);
+            // SAFETY: the call takes any chain, state and node.
+            let answer = unsafe { calls[side](*chain, *run, *node) };
+            black_box(&answer);
+        }
+    });
+}
+
+/// Prints the line of immediate runs of k source firings, none of which may be refused.
+fn immediate_line(name: &str, chains: &[Chain], k: u32) {
+    for chain in chains {
+        let answer = same(library::immediate(chain, k), yardstick::immediate(chain, k));
+        due(answer.number, 0);
+    }
+    let calls = [ardenquill_immediate as Immediate, yardstick_immediate];
+    line("immediate", name, LONG, |side| {
+        for chain in chains {
+            // SAFETY: the call takes any chain and number.
+            let answer = unsafe { calls[side](*black_box(chain), black_box(k)) };
+            black_box(&answer);
+        }
+    });
+}
+
+/// Prints one line, given the effort and what goes once through the ring on a side: 0 library, 1
+/// yardstick. The sides take turns, and so does who begins.
+fn line(call: &str, name: &str, effort: Effort, mut ring: impl FnMut(usize)) {
     let mut best = [f64::INFINITY; 2];
-    for round in 0..2 * ROUNDS {
+    for round in 0..2 * effort.rounds {
         let side = (round + round / 2) % 2;
         let start = Instant::now();
-        for _ in 0..TURNS {
+        for _ in 0..effort.turns {
             ring(side);
         }
-        let spent = start.elapsed().as_nanos() as f64 / (TURNS * INPUTS) as f64;
+        let calls = effort.turns * effort.inputs;
+        let spent = start.elapsed().as_nanos() as f64 / calls as f64;
         best[side] = best[side].min(spent);
     }
     let [library, yardstick] = best;
     let ratio = library / yardstick;
-    println!("{call:<9}{name:<28}{library:>9.1}{yardstick:>11.1}{ratio:>8.2}");
+    println!("{call:<10}{name:<28}{library:>13.1}{yardstick:>13.1}{ratio:>8.2}");
 }
 
 /// Prints what is measured, and the heads of the columns.
@@ -226,7 +351,8 @@ fn heading() {
         "Nanoseconds per call of the library and of the yardstick, the same rules in plain Rust."
     );
     println!(
-        "Best of {ROUNDS} rounds, the two taking turns on the same {INPUTS} different inputs."
+        "Best of {} rounds, the two taking turns on the same {} different inputs; for immediate {} and {}.",
+        SHORT.rounds, SHORT.inputs, LONG.rounds, LONG.inputs
     );
     println!(
         "Both are release builds, called through a C function pointer with the same signature."
@@ -235,7 +361,7 @@ fn heading() {
         "No lent buffer is cleared in the timed part, on either side; each call makes its whole answer."
     );
     println!(
-        "{:<9}{:<28}{:>9}{:>11}{:>8}",
+        "{:<10}{:<28}{:>13}{:>13}{:>8}",
         "call", "input", "library", "yardstick", "ratio"
     );
 }
@@ -267,4 +393,11 @@ fn main() {
     }
     let [.., largest] = &sized_files;
     report_line("n = 16, exact room", largest, &report_lengths(largest));
+    for n in [1, MAX_QUEUES] {
+        fire_line(&format!("n = {n}"), &firings(&mut random, n));
+    }
+    for n in [1, MAX_QUEUES] {
+        let chains = even_chains(&mut random, n);
+        immediate_line(&format!("n = {n}, k = {MAX_FIRINGS}"), &chains, MAX_FIRINGS);
+    }
 }
