@@ -168,7 +168,7 @@ static void answer_history(void)
     uint64_t length;
     take(&length, sizeof length);
     uint32_t *nodes = malloc(length * sizeof *nodes);
-    if (nodes == NULL)
+    if (nodes == NULL && length > 0)
         give_up("no memory");
     take(nodes, length * sizeof *nodes);
     for (uint64_t i = 0; i < length; i++) {

@@ -1,5 +1,5 @@
 //! Compares the library with the yardstick on both sides of every limit and on seeded random
-//! inputs:
+//! inputs, and watches what it does on small chains:
 //!     compare [--seed N] COMMAND WORDS
 //! The command runs tests/calls.c, which has the library's calls. The last line is `N passed, M
 //! failed`, N being the inputs on which the two agree.

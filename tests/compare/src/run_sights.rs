@@ -46,7 +46,7 @@ const NO_NODES: [&str; 6] = [
 ];
 
 /// What must be seen of damaged states.
-const DAMAGED: [&str; 13] = [
+const DAMAGED: [&str; 12] = [
     "one more is held",
     "one less is held",
     "held is the capacity + 1",
@@ -59,10 +59,9 @@ const DAMAGED: [&str; 13] = [
     "17 before 11",
     "17 before 11, no such node",
     "17 before 12",
-    CHAIN_REFUSED,
 ];
 
-/// A damaged state of a chain that is refused.
+/// What must be seen of damaged states too, and is not refused with 17.
 const CHAIN_REFUSED: &str = "the chain is refused";
 
 /// What must be seen of walks on one chain.
@@ -280,7 +279,6 @@ impl Firings {
             below.is_some_and(|by| by < 0),
             !there,
             full.is_some_and(|by| by > 0),
-            false,
         ];
         count_all(&mut self.damaged, DAMAGED, marks);
     }
@@ -318,7 +316,8 @@ impl Firings {
             self.fired.line("fire, fired", FIRED),
             self.not_fired.line("fire, 9, 11 or 12", NOT_FIRED),
             self.no_nodes.line("fire, 11 as there is no node", NO_NODES),
-            self.damaged.line("fire, damaged", DAMAGED),
+            self.damaged
+                .line("fire, damaged", DAMAGED.into_iter().chain([CHAIN_REFUSED])),
             self.walks.line("fire, walks", WALKS),
         ]
     }

@@ -62,6 +62,12 @@ impl Simulated {
         one_of(random, self.nodes().filter(|&node| self.permits(node)))
     }
 
+    /// One of the nodes but the source that may fire; none if none may.
+    pub fn permitted_behind(&self, random: &mut Random) -> Option<usize> {
+        let may = |&node: &usize| node > 0 && self.permits(node);
+        one_of(random, self.nodes().filter(may))
+    }
+
     /// One of the nodes that may fire while the node they feed is below its threshold; none if
     /// none may.
     pub fn prompt(&self, random: &mut Random) -> Option<usize> {

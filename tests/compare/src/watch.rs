@@ -37,7 +37,6 @@ pub struct Watch<'a> {
     seen: &'a mut Tally<&'static str>,
     chain: &'a Chain,
     sizes: Vec<QueueSize>,
-    fresh: Run,
 }
 
 /// What an order of firings that the library accepts comes to: the most that each queue has held,
@@ -56,15 +55,15 @@ impl<'a> Watch<'a> {
     ) -> Result<Self, Failure> {
         let analysis = library.analyse(chain)?;
         let fresh = library.fresh(chain)?;
-        if analysis.number != 0 || fresh.number != 0 {
+        if analysis.number != 0 {
             return Err(Failure::Broken("a small chain is accepted"));
         }
+        same_answer("the fresh start", &fresh, &RunAnswer::default())?;
         Ok(Watch {
             library,
             seen,
             chain,
             sizes: analysis.analysis.queues[..chain.n as usize].to_vec(),
-            fresh: fresh.run,
         })
     }
 
@@ -120,7 +119,7 @@ impl<'a> Watch<'a> {
     /// Watches an immediate run: its state is that of the order by the rule, and the queue of a
     /// producer that fired by times has held exactly the minimum.
     fn immediate(&mut self, k: u32) -> Result<(), Failure> {
-        let mut line = Simulated::new(self.chain, &self.fresh);
+        let mut line = Simulated::new(self.chain, &Run::default());
         let mut nodes = Vec::new();
         loop {
             let node = line.next();
@@ -153,17 +152,20 @@ impl<'a> Watch<'a> {
     /// Watches a permitted order with so many source firings after which no other node is over its
     /// threshold: it ends as the immediate run does.
     fn same_end(&mut self, random: &mut Random, k: u32) -> Result<(), Failure> {
-        let mut line = Simulated::new(self.chain, &self.fresh);
+        let mut line = Simulated::new(self.chain, &Run::default());
         let mut nodes = Vec::new();
         loop {
-            let ended = line.counts[0] == u64::from(k);
-            let node = match line.permitted(random) {
-                Some(node) if node > 0 || !ended => node,
-                _ if line.next() == 0 && ended => break,
-                _ => continue,
+            let node = if line.counts[0] < u64::from(k) {
+                line.permitted(random)
+            } else {
+                line.permitted_behind(random)
             };
+            let Some(node) = node else { break };
             line.fire(node);
             nodes.push(node as u32);
+        }
+        if line.counts[0] < u64::from(k) || line.next() > 0 {
+            return Err(Failure::Broken("some node may fire until an order ends"));
         }
         let followed = self.follow(&nodes)?;
         self.seen.count(SIGHTS[9]);
@@ -195,7 +197,7 @@ impl<'a> Watch<'a> {
     /// An order of firings from a fresh start, each chosen from the line as it is then, until there
     /// is none.
     fn order(&self, mut chosen: impl FnMut(&Simulated) -> Option<usize>) -> Vec<u32> {
-        let mut line = Simulated::new(self.chain, &self.fresh);
+        let mut line = Simulated::new(self.chain, &Run::default());
         let mut nodes = Vec::with_capacity(STEPS);
         while nodes.len() < STEPS {
             let Some(node) = chosen(&line) else { break };
@@ -209,12 +211,12 @@ impl<'a> Watch<'a> {
     /// counts are how often each node was fired, each queue holds what was put in less what was
     /// taken out, and where a producer fired by times its queue has held the minimum.
     fn follow(&mut self, nodes: &[u32]) -> Result<Followed, Failure> {
-        let answers = self.library.history(self.chain, &self.fresh, nodes)?;
         let mut counts = vec![0; self.sizes.len() + 1];
         let mut followed = Followed {
             peaks: vec![0; self.sizes.len()],
-            run: self.fresh,
+            run: Run::default(),
         };
+        let answers = self.library.history(self.chain, &followed.run, nodes)?;
         for (&node, answer) in nodes.iter().zip(&answers) {
             counts[node as usize] += 1;
             followed.run = answer.run;
