@@ -17,7 +17,7 @@ const STEPS: usize = 60;
 const LONGEST_TURN: u32 = 120;
 
 /// What must be seen of small chains.
-pub const SIGHTS: [&str; 11] = [
+pub const SIGHTS: [&str; 13] = [
     "a queue holds its minimum in a prompt order",
     "a queue holds more than its minimum in another order",
     "a producer fires by times",
@@ -29,6 +29,8 @@ pub const SIGHTS: [&str; 11] = [
     "immediate: a producer fires by times",
     "immediate: any order ends the same",
     "immediate: a rate",
+    "a node is below its threshold",
+    "a queue has no room",
 ];
 
 /// A small chain, what the library's analysis says of its queues, and what was seen so far.
@@ -92,6 +94,27 @@ impl<'a> Watch<'a> {
             nodes.len() < STEPS,
         ];
         count_all(self.seen, [SIGHTS[1], SIGHTS[5]], marks);
+        self.each_node(&followed.run)
+    }
+
+    /// Watches the firing of each node from a state: it is accepted where it is permitted, and else
+    /// refused for what waits for the node or for the room behind it.
+    fn each_node(&mut self, run: &Run) -> Result<(), Failure> {
+        let line = Simulated::new(self.chain, run);
+        for node in line.nodes() {
+            let below = node > 0 && !line.over_threshold(node);
+            let full = !below && !line.permits(node);
+            let answer = self.library.fire(self.chain, run, node as u32)?;
+            let due = match (below, full) {
+                (true, _) => 11,
+                (_, true) => 12,
+                _ => 0,
+            };
+            if answer.number != due {
+                return Err(Failure::Broken("a firing is accepted if it is permitted"));
+            }
+            count_all(self.seen, [SIGHTS[11], SIGHTS[12]], [below, full]);
+        }
         Ok(())
     }
 
