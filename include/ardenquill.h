@@ -103,8 +103,9 @@ struct ardenquill_chain {
 struct ardenquill_queue_size {
     /* The rate of the queue's consumer: x firings in y ticks. The two may have a common divisor. */
     uint32_t x, y;
-    /* The minimum capacity: the largest multiple of gcd(produce, consume) below threshold, plus produce. The queue
-     * never holds more when every node is fired as soon as it can, the one nearest the sink first. */
+    /* The minimum capacity: the largest multiple of gcd(produce, consume) below threshold, plus produce. Where no
+     * capacity of the chain is below its minimum and every node is fired as soon as it can from a fresh start, the one
+     * nearest the sink first, the queue never holds more. */
     uint32_t minimum;
     /* The naming count: (threshold - consume) / produce rounded up, plus consume / gcd(produce, consume). In no order
      * of firings from a fresh start, each accepted by ardenquill_fire, has the queue's producer fired so often unless
