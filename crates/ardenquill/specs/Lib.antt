@@ -3,3 +3,5 @@ pub mod Files
 pub mod Analyses
 pub mod Reports
 pub mod Runs
+pub mod Histories
+pub mod Immediate
