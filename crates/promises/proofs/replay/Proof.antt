@@ -1,0 +1,63 @@
+-- `promises::replay` meets its contract: firing what is left from place i on gives the whole answer.
+use mathlib.Core.Path.{_≡_, sym, _∙_}
+use Prim.Native.Nat.{_≤_, _-_}
+use native.Mathlib.Omega.{arith}
+use borrow.Author.Needs.{needs}
+use lib.ListN.{length, drop}
+use Rattle.promises.specs.Replay.{replayFrom, replayAnswer, stopped}
+use Rattle.promises.proofs.Steps.{replay-start, replay-next, replay-end}
+use Rattle.promises.proofs.replay.Statement.{statement}
+use Rattle.promises.proofs.replay.Tie as tie
+
+abbrev Inv-loop : tie.InvT-loop
+Inv-loop chain nodes answer₀ i₀ answer i = replayFrom chain answer (drop i nodes) ≡ replayAnswer chain nodes
+
+abbrev μ-loop : tie.MeasureT-loop
+μ-loop chain nodes answer₀ i₀ answer i = length nodes - i
+
+fresh-requires : tie.Need-fresh-requires Inv-loop μ-loop
+fresh-requires c κs = search needs
+
+loop-holds : tie.Need-loop-holds Inv-loop μ-loop
+loop-holds c = replay-start _ _ (c .fresh .ensures)
+
+returns : tie.Need-returns Inv-loop μ-loop
+returns c = sym (stopped _ _ _ (c .if1 .taken)) ∙ c .before .before .before .loop .inv
+
+mul-fire : tie.Need-mul-fire Inv-loop μ-loop
+mul-fire c = search needs
+
+shared-slice-read-fire : tie.Need-shared-slice-read-fire Inv-loop μ-loop
+shared-slice-read-fire c = search needs
+
+fire-requires : tie.Need-fire-requires Inv-loop μ-loop
+fire-requires c κs = search needs
+
+add-i : tie.Need-add-i Inv-loop μ-loop
+add-i c = search needs
+
+loop-less : tie.Need-loop-less Inv-loop μ-loop
+loop-less c = search needs
+
+loop-again : tie.Need-loop-again Inv-loop μ-loop
+loop-again c = replay-next _ (c .before .before .before .before .before .before .loop .answer) _ (c .before .before .before .before .before .before .loop .i) (c .before .before .before .before .before .loop-test .taken) (c .before .before .before .if1 .left) (c .fire .ensures) ∙ c .before .before .before .before .before .before .loop .inv
+
+returns-2 : tie.Need-returns-2 Inv-loop μ-loop
+returns-2 c = sym (replay-end _ _ _ _ (c .loop-test .left)) ∙ c .before .loop .inv
+
+pub replay-spec : {M : Type 1} → statement M
+replay-spec =
+    tie.close
+    (tie.spec
+    Inv-loop
+    μ-loop
+    fresh-requires
+    loop-holds
+    returns
+    mul-fire
+    shared-slice-read-fire
+    fire-requires
+    add-i
+    loop-less
+    loop-again
+    returns-2)
