@@ -6,10 +6,12 @@ pub use Rattle.onequeue.specs.Residue.{residue, Largest, residue-largest, large
 pub use Rattle.onequeue.specs.Minimum.{minimum, minimum-is, minimum-produce, minimum-threshold, minimum-bound, naming, Reaches, naming-reaches, naming-is, naming-pos, naming-fits}
 pub use Rattle.onequeue.specs.Capacity.{capacity, capacity-written, capacity-minimum, margin, margin-over, margin-under, margin-balance, margin-zero, margin-negative, short-is}
 pub use Rattle.rates.specs.Rates.{common, nextX, nextY, stretch}
-pub use Rattle.sizing.specs.Nodes.{xOf, yOf, stretchOf, source-rate, x-pos, y-pos, y-stretch, y-multiple, y-source, tokens-balance, cycle-least}
+unfoldable pub use Rattle.sizing.specs.Nodes.{xOf, yOf}
+pub use Rattle.sizing.specs.Nodes.{stretchOf, source-rate, x-pos, y-pos, y-stretch, y-multiple, y-source, tokens-balance, cycle-least}
 pub use Rattle.sizing.specs.Load.{busyIn, busyOf, cycleOf, parts-exact, busy-next}
 pub use Rattle.rates.specs.Load.{capped, capped-above}
-pub use Rattle.sizing.specs.Sizes.{start, minimumOf, namingOf, capacityOf, marginOf, margin-unwritten, margin-written, sizeBy, sizeOf, noSize, emptyAnalysis, analysisOf, sized, refusedWith, size-at}
+pub use Rattle.sizing.specs.Sizes.{start, minimumOf, namingOf, capacityOf, marginOf, margin-unwritten, margin-written, sizeOf, noSize, emptyAnalysis, refusedWith, size-at}
+unfoldable pub use Rattle.sizing.specs.Sizes.{sizeBy, analysisOf, sized}
 unfoldable pub use Rattle.sizing.specs.Checks.{analyseRefusal, analyseAnswer, runRefusal, runAnswer}
 pub use Rattle.sizing.specs.Checks.{limit, limit-word, tooLarge, rateTest, rateCheck, loadCheck, capacityTest, capacityCheck, sizeChecks, analyseChecks, runChecks, InLimit, FirstTooLarge, Short, Enough, FirstShort, analyse-2, analyse-4, analyse-5, analyse-6, analyse-7, run-parts, run-8, run-earlier}
 pub use Rattle.sizing.specs.Accepted.{Accepted, size-accepts, analyse-accepts, analysed, run-accepts, SizeFits, size-fits, busy-fits, cycle-fits}

@@ -1,1 +1,3 @@
 pub mod Replay
+pub mod Demand3
+pub mod Replayed

@@ -1,13 +1,12 @@
 // The customer's demands as theorems, in specs/, and a function that is proved from the contracts of the public calls alone.
-ghost use mathlib.Core.Path.{_≡_};
-ghost use Rattle.promises.specs.Replay.{replayAnswer};
+ghost use Rattle.promises.specs.Replayed.{Replayed};
 use ardenquill::Chain;
 use ardenquill::RunAnswer;
 
 // A fresh start of a chain, and then a manual firing of each node in turn; the first refusal ends it, with the state as it
 // then was.
 pub fn replay(chain: Chain, nodes: &[u32]) -> RunAnswer
-    ensures { λ r. ⌜ r ≡ replayAnswer chain (now (nodes .entry)) ⌝ }
+    ensures { λ r. ⌜ Replayed chain (now (nodes .entry)) r ⌝ }
 {
     let mut answer = ardenquill::fresh(chain);
     let mut i = 0;

@@ -5,6 +5,7 @@ use native.Mathlib.Omega.{arith}
 use borrow.Author.Needs.{needs}
 use lib.ListN.{length, drop}
 use Rattle.promises.specs.Replay.{replayFrom, replayAnswer, stopped}
+use Rattle.promises.specs.Replayed.{replayed}
 use Rattle.promises.proofs.Steps.{replay-start, replay-next, replay-end}
 use Rattle.promises.proofs.replay.Statement.{statement}
 use Rattle.promises.proofs.replay.Tie as tie
@@ -22,7 +23,7 @@ loop-holds : tie.Need-loop-holds Inv-loop μ-loop
 loop-holds c = replay-start _ _ (c .fresh .ensures)
 
 returns : tie.Need-returns Inv-loop μ-loop
-returns c = sym (stopped _ _ _ (c .if1 .taken)) ∙ c .before .before .before .loop .inv
+returns c = replayed _ _ (sym (stopped _ _ _ (c .if1 .taken)) ∙ c .before .before .before .loop .inv)
 
 mul-fire : tie.Need-mul-fire Inv-loop μ-loop
 mul-fire c = search needs
@@ -43,7 +44,7 @@ loop-again : tie.Need-loop-again Inv-loop μ-loop
 loop-again c = replay-next _ (c .before .before .before .before .before .before .loop .answer) _ (c .before .before .before .before .before .before .loop .i) (c .before .before .before .before .before .loop-test .taken) (c .before .before .before .if1 .left) (c .fire .ensures) ∙ c .before .before .before .before .before .before .loop .inv
 
 returns-2 : tie.Need-returns-2 Inv-loop μ-loop
-returns-2 c = sym (replay-end _ _ _ _ (c .loop-test .left)) ∙ c .before .loop .inv
+returns-2 c = replayed _ _ (sym (replay-end _ _ _ _ (c .loop-test .left)) ∙ c .before .loop .inv)
 
 pub replay-spec : {M : Type 1} → statement M
 replay-spec =

@@ -1,0 +1,234 @@
+-- Demand 3, "for every accepted chain, counted from a fresh start", of what the public calls answer.
+--   c, j, i                  a chain, a queue (N_j feeds it and N_(j+1) empties it), a node
+--   h                        a list of nodes, fired by manual firing in this order from a fresh start: Fires c h where each is accepted, and then
+--                            replayAnswer c h .run is the state (Replay)
+--   k, schedule c k          a number of source firings, and the immediate run's order
+--   line c j                 what analyse answers of queue j: minimum is b, by the naming count, x and y its consumer's rate
+--   Always c h P, Sometime c h P
+--                            P holds of the state at every moment of h, at some moment of h; a moment is the end of what h begins with
+--   AtOnce c h               no node fires while the node that it feeds is over threshold
+--   NearestFirst c h         each firing is of the node nearest the sink that may fire, and of the source where no other may
+--   nearest-at-once          so no node fires while the node that it feeds is over threshold
+--   Runs c k                 the immediate run of k source firings is not refused
+--   line-is                  what the line of a queue says
+--   counted, balance         "each queue holds what its producer's firings put in less what its consumer's took out"
+--   naming                   "in no permitted order can a producer fire as often as 01 names .. unless that queue has held at least the minimum"
+--   peak                     "when nodes fire at once .. no queue passes that minimum"
+--   run-fires, run-rule, run-at-once, run-peak
+--                            the immediate run is such an order: manual firing accepts it, it is by the rule, and no queue passes its minimum
+--   capacities               where it is not refused no capacity is below the reported minimum
+--   counts, at-rest          its counts are the exact ones, F, and clock and work done are 0
+--   any-order                every permitted order that leaves only the source to fire ends in its state
+--   rate, rate-exact         "a node that has fired keeps exactly its x firings per y ticks", y being whole periods of the source
+--   reached                  a producer that has fired the naming count in it has filled its queue to exactly the minimum
+use mathlib.Core.Path.{_≡_, refl, sym, ap, subst, _∙_}
+use mathlib.Core.Logic.{_⊎_}
+use mathlib.Core.List.{List, [], _∷_, _++_}
+use Prim.Native.Nat.{ℕ, suc, _+_, _*_, _/_, _≤_, _<_, _∣_}
+use native.Mathlib.Nat.{le-refl}
+use native.Mathlib.Omega.{arith}
+use lib.ListN.{getD, replicate}
+use Rattle.ardenquill.specs.Chains.{rowOf, Sound}
+use Rattle.ardenquill.specs.Analyses.{xOf, yOf, y-source, start, minimumOf, namingOf, sizeBy, sizeOf, noSize, size-at, analyseAnswer, Accepted, analysed, Enough}
+use Rattle.ardenquill.specs.Runs.{countAt, heldAt, freshRun, answered, fired}
+use Rattle.ardenquill.specs.Histories as histories
+use Rattle.ardenquill.specs.Histories.{times, after, Permitted, Prompt, HasHeld, HeldExactly}
+use Rattle.ardenquill.specs.Immediate as immediate
+use Rattle.ardenquill.specs.Immediate.{F, schedule, Next, Follows, rule, most, immediateRefusal, immediateAnswer, immediate-accepts, immediate-ran, permitted, counts-are-F}
+use Rattle.chain.specs.declared.Chain.{Chain}
+use Rattle.sizing.specs.declared.QueueSize.{QueueSize}
+use Rattle.sizing.specs.declared.AnalysisAnswer.{AnalysisAnswer}
+use Rattle.state.specs.declared.Run.{Run}
+use Rattle.promises.specs.Replay.{replayAnswer, Accepts, Fires, accepts-is, fires-is, fires-state, fires-before}
+
+-- queue j's line in analyse's own answer
+abbrev pub line : Chain → ℕ → QueueSize
+line c j = getD (analyseAnswer c .analysis .queues) j noSize
+
+-- P holds of the state at every moment of h
+abbrev pub Always : Chain → List ℕ → (Run → Type 0) → Type 0
+Always c h P = (before later : List ℕ) → h ≡ before ++ later → P (replayAnswer c before .run)
+
+-- P holds of the state at some moment of h
+pub record Sometime (c : Chain) (h : List ℕ) (P : Run → Type 0) : Type 0 where
+  pub before : List ℕ
+  pub later : List ℕ
+  pub parts : h ≡ before ++ later
+  pub holds : P (replayAnswer c before .run)
+
+-- when N_i fires, the node that it feeds, if any, is below threshold
+abbrev pub AtOnce : Chain → List ℕ → Type 0
+AtOnce c h = (before later : List ℕ) (i : ℕ) → h ≡ before ++ (i ∷ later) → i < c .n → heldAt (replayAnswer c before .run) i < rowOf c i .threshold
+
+-- "no source firing happens while another node may fire, and among those that may, the one nearest the sink goes first"
+abbrev pub NearestFirst : Chain → List ℕ → Type 0
+NearestFirst c h = (before later : List ℕ) (i : ℕ) → h ≡ before ++ (i ∷ later) → Next c (replayAnswer c before .run) i
+
+-- an order by the rule fires no node while the node that it feeds is over threshold
+pub nearest-at-once : (c : Chain) (h : List ℕ) → NearestFirst c h → AtOnce c h
+nearest-at-once c h near g k i e = near g k i e .nearest i (le-refl i)
+
+-- the immediate run of k source firings is not refused
+abbrev pub Runs : Chain → ℕ → Type 0
+Runs c k = immediateAnswer c k .number ≡ 0
+
+-- the line of a queue, by 01's formulas
+pub line-is : (c : Chain) → Accepts c → (j : ℕ) → j < c .n → line c j ≡ sizeOf c j
+line-is c a j l =
+    let r = analysed c refl a in
+    ap (λ (t : AnalysisAnswer). getD (t .analysis .queues) j noSize) (r .1) ∙ size-at c j (r .0 .chain .count .1) l
+
+module _ (c : Chain) (a : Accepted c) (j : ℕ) (l : j < c .n) where
+  line-of : line c j ≡ sizeOf c j
+  line-of = line-is c (accepts-is c .1 a) j l
+
+  minimum-is : line c j .minimum ≡ minimumOf (rowOf c j)
+  unfolding sizeBy
+  minimum-is = ap (λ (q : QueueSize). q .minimum) line-of
+
+  by-is : line c j .by ≡ namingOf (rowOf c j)
+  unfolding sizeBy
+  by-is = ap (λ (q : QueueSize). q .by) line-of
+
+  x-is : line c j .x ≡ xOf c (suc j)
+  unfolding sizeBy
+  x-is = ap (λ (q : QueueSize). q .x) line-of
+
+  y-is : line c j .y ≡ yOf c (suc j)
+  unfolding sizeBy
+  y-is = ap (λ (q : QueueSize). q .y) line-of
+
+-- an order that fires each node only when the one that it feeds is below threshold, firing by firing
+prompt : (c : Chain) (s : Run) (h : List ℕ)
+    → ((before later : List ℕ) (i : ℕ) → h ≡ before ++ (i ∷ later) → i < c .n → heldAt (after c s before) i < rowOf c i .threshold) → Prompt c s h
+unfolding Prompt after
+prompt c s [] low = tt
+prompt c s (i ∷ h) low = (low [] h i refl, prompt c (fired c s i) h (λ g k m e. low (i ∷ g) k m (ap (λ (t : List ℕ). i ∷ t) e)))
+
+-- a firing of an order by the rule
+follows-at : (c : Chain) (s : Run) (g : List ℕ) (i : ℕ) (k : List ℕ) → Follows c s (g ++ (i ∷ k)) → Next c (after c s g) i
+unfolding Follows after
+follows-at c s [] i k p = p .0
+follows-at c s (m ∷ g) i k p = follows-at c (fired c s m) g i k (p .1)
+
+-- what is fired by a permitted order's moments
+module _ (c : Chain) (h : List ℕ) (ok : Fires c h) where
+  accepted : Accepted c
+  accepted = fires-is c h .0 ok .0
+
+  permits : Permitted c (freshRun c) h
+  permits = fires-is c h .0 ok .1
+
+  state-is : replayAnswer c h .run ≡ after c (freshRun c) h
+  state-is = fires-state c h ok
+
+  -- the state at a moment
+  moment : (g k : List ℕ) → h ≡ g ++ k → replayAnswer c g .run ≡ after c (freshRun c) g
+  moment g k e = fires-state c g (fires-before c g k (subst (Fires c) e ok))
+
+  -- counts are the numbers of each node in the list
+  pub counted : (i : ℕ) → i ≤ c .n → countAt (replayAnswer c h .run) i ≡ times i h
+  counted i l = rw state-is (histories.counted c accepted h i l)
+
+  -- "after any permitted firings, each queue holds what its producer's firings put in less what its consumer's took out", as a sum
+  pub balance : (j : ℕ) → j < c .n → start (rowOf c j) + rowOf c j .produce * times j h ≡ heldAt (replayAnswer c h .run) j + rowOf c j .consume * times (suc j) h
+  balance j l = rw state-is (histories.balance c accepted h permits j l)
+
+  -- "in no permitted order can a producer fire as often as 01 names for its queue unless that queue has held at least the minimum": capacities
+  -- may be below it, since manual firing does not check them
+  pub naming : (j : ℕ) → j < c .n → line c j .by ≤ times j h → Sometime c h (λ s. line c j .minimum ≤ heldAt s j)
+  naming j l often =
+      let m : HasHeld c h j (minimumOf (rowOf c j)) = histories.naming c accepted h permits j l (rw (by-is c accepted j l) at often) in
+      record { before = m .before; later = m .later; parts = m .parts; holds = rw (moment (m .before) (m .later) (m .parts), minimum-is c accepted j l) (m .holds) }
+
+  prompts : AtOnce c h → Prompt c (freshRun c) h
+  prompts low = prompt c (freshRun c) h (λ g k i e. rw (moment g (i ∷ k) e) at (low g k i e))
+
+  -- "when nodes fire at once .. no queue passes that minimum", at no moment
+  pub peak : AtOnce c h → (j : ℕ) → j < c .n → Always c h (λ s. heldAt s j ≤ line c j .minimum)
+  peak low j l g k e =
+      let m : HasHeld c h j (heldAt (after c (freshRun c) g) j) = record { before = g; later = k; parts = e; holds = le-refl _ } in
+      rw (moment g k e, minimum-is c accepted j l) (histories.peak c accepted h permits (prompts low) j l _ m)
+
+-- the immediate run of k source firings
+module _ (c : Chain) (k : ℕ) (ran : Runs c k) where
+  silent : immediateRefusal c k .number ≡ 0
+  unfolding immediateAnswer answered
+  silent = ran
+
+  parts : (Accepted c × ((i : ℕ) → i < c .n → Enough c i)) × ((i : ℕ) → i ≤ c .n → F c k i ≤ most)
+  parts = immediate-accepts c k .0 silent
+
+  sound : Sound c
+  sound = parts .0 .0 .chain
+
+  ends-in : immediateAnswer c k .run ≡ after c (freshRun c) (schedule c k)
+  ends-in = immediate-ran c k silent
+
+  -- manual firing accepts each of its firings in turn, and its state is the one that they lead to
+  pub run-fires : Fires c (schedule c k)
+  run-fires = fires-is c (schedule c k) .1 (parts .0 .0, permitted (parts .0 .0) (parts .0 .1) k (parts .1))
+
+  pub run-state : immediateAnswer c k .run ≡ replayAnswer c (schedule c k) .run
+  run-state = ends-in ∙ sym (state-is c (schedule c k) run-fires)
+
+  -- "the one nearest the sink first"
+  pub run-rule : NearestFirst c (schedule c k)
+  run-rule g l i e = rw (moment c (schedule c k) run-fires g (i ∷ l) e) (follows-at c (freshRun c) g i l (subst (Follows c (freshRun c)) e (rule sound k)))
+
+  -- so no node fires while the node that it feeds is over threshold
+  pub run-at-once : AtOnce c (schedule c k)
+  run-at-once = nearest-at-once c (schedule c k) run-rule
+
+  -- "when nodes fire at once, the one nearest the sink first, and no capacity is below the reported minimum, no queue passes that minimum"
+  pub run-peak : (j : ℕ) → j < c .n → Always c (schedule c k) (λ s. heldAt s j ≤ line c j .minimum)
+  run-peak = peak c (schedule c k) run-fires run-at-once
+
+  -- a capacity that is written is not below it
+  pub capacities : (j : ℕ) → j < c .n → (rowOf c j .capacity ≡ 0) ⊎ (line c j .minimum ≤ rowOf c j .capacity)
+  capacities j l = rw (minimum-is c (parts .0 .0) j l) (parts .0 .1 j l)
+
+  -- "exact counts"
+  pub counts : (i : ℕ) → i ≤ c .n → countAt (immediateAnswer c k .run) i ≡ F c k i
+  counts i l = rw ends-in (counts-are-F sound k i l)
+
+  -- "clock and work done stay 0"
+  pub at-rest : (immediateAnswer c k .run .clock ≡ 0) × (immediateAnswer c k .run .done ≡ replicate 16 0)
+  at-rest = rw ends-in (immediate.reached sound k .clock, immediate.reached sound k .done)
+
+  -- the end of every permitted order with as many source firings that leaves no other node over threshold is the immediate run's
+  pub any-order : (h : List ℕ) → Fires c h → times 0 h ≡ k → ((j : ℕ) → j < c .n → heldAt (replayAnswer c h .run) j < rowOf c j .threshold)
+      → replayAnswer c h .run ≡ immediateAnswer c k .run
+  any-order h ok e low =
+      state-is c h ok
+      ∙ immediate.any-order sound h (permits c h ok) (λ j z l. rw (state-is c h ok) at (low j l))
+      ∙ ap (λ (m : ℕ). after c (freshRun c) (schedule c m)) e
+      ∙ sym ends-in
+
+  -- where a producer has fired its queue's naming count, the queue has held exactly the minimum
+  pub reached : (j : ℕ) → j < c .n → line c j .by ≤ countAt (immediateAnswer c k .run) j → Sometime c (schedule c k) (λ s. heldAt s j ≡ line c j .minimum)
+  reached j l often =
+      let a : Accepted c = parts .0 .0 in
+      let fires : line c j .by ≤ times j (schedule c k) = omega (arith, ap (λ (s : Run). countAt s j) run-state, counted c (schedule c k) run-fires j (omega arith)) in
+      let m : HeldExactly c (schedule c k) j (minimumOf (rowOf c j)) =
+      histories.reached c a (schedule c k) (permits c (schedule c k) run-fires) (prompts c (schedule c k) run-fires run-at-once) j l (rw (by-is c a j l) at fires) in
+      record {
+        before = m .before;
+        later = m .later;
+        parts = m .parts;
+        holds = rw (moment c (schedule c k) run-fires (m .before) (m .later) (m .parts), minimum-is c a j l) (m .holds);
+      }
+
+module _ (c : Chain) (j : ℕ) (l : j < c .n) where
+  -- "a node that has fired keeps exactly its x firings per y ticks": y ticks are y/period firings of the source
+  pub rate : (k : ℕ) → Runs c k → Runs c (k + line c j .y / c .period) → 0 < countAt (immediateAnswer c k .run) (suc j)
+      → countAt (immediateAnswer c (k + line c j .y / c .period) .run) (suc j) ≡ countAt (immediateAnswer c k .run) (suc j) + line c j .x
+  rate k ran more has =
+      let a : Accepted c = parts c k ran .0 .0 in
+      let was : countAt (immediateAnswer c k .run) (suc j) ≡ F c k (suc j) = counts c k ran (suc j) l in
+      counts c _ more (suc j) l
+      ∙ rw (was, x-is c a j l, y-is c a j l) (immediate.rate c (a .chain) (suc j) l k (rw was at has))
+
+  -- and y is a whole number of periods
+  pub rate-exact : Accepts c → c .period ∣ line c j .y
+  rate-exact ok = let a : Accepted c = accepts-is c .0 ok in rw (y-is c a j l) (y-source c (a .chain) (suc j) l)
