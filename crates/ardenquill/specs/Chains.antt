@@ -1,6 +1,7 @@
 -- What the public calls promise of chains, refusals and factory chains, handed on from the crates `words` and `chain`.
 unfoldable pub use Rattle.words.specs.Flat.{flat}
-pub use Rattle.words.specs.Table.{tab, slots}
+unfoldable pub use Rattle.words.specs.Table.{tab}
+pub use Rattle.words.specs.Table.{slots}
 pub use Rattle.words.specs.Rows.{none, row}
 pub use Rattle.chain.specs.Tests.{outside, Out, In}
 pub use Rattle.chain.specs.Refusals.{refused, fine, test, orElse, first, Silent, Silents, First, first-is}

@@ -13,8 +13,10 @@ use native.Mathlib.Omega.{arith}
 use lib.Dec.{T, eqb, eqb→eq}
 use lib.ListN.{length, getD}
 use Rattle.ardenquill.specs.Chains.{queue, made, factoryAnswer}
+use Rattle.ardenquill.specs.Runs.{fired, freshAnswer}
+use Rattle.ardenquill.specs.Histories.{after}
 use Rattle.chain.specs.declared.Chain.{Chain}
-use Rattle.figures.specs.Questions.{Question, analyse, checkedForRun, answerTo}
+use Rattle.figures.specs.Questions.{Question, analyse, checkedForRun, fresh, fire, immediate, answerTo}
 
 -- the factory chains, and what the figures change in them
 abbrev pub feed : Chain
@@ -35,7 +37,8 @@ feedConsuming c = made 10 (queue 4 7 c 0 ∷ []) (2 ∷ [])
 abbrev pub largeCycle : Chain
 largeCycle = made 1000000 (queue 1 65521 65521 0 ∷ []) (1 ∷ [])
 
--- an answer: number, place, n; for each queue x, y, minimum, naming count, capacity, sign and size of the margin; busy, cycle
+-- an answer: number, place, n; for each queue x, y, minimum, naming count, capacity, sign and size of the margin; busy, cycle. One with a run
+-- state: number, place, clock; the counts from the source on; what the queues hold; the work done
 abbrev pub table : List (Question × List ℕ)
 table =
     -- P1, and P6's 4
@@ -47,11 +50,23 @@ table =
     -- P4: margins 2 and -1; what runs it refuses 8, place 1
     ∷ (analyse permeateWritten, (0 ∷ 0 ∷ 2 ∷ 4 ∷ 15 ∷ 10 ∷ 4 ∷ 12 ∷ 0 ∷ 2 ∷ 6 ∷ 15 ∷ 6 ∷ 3 ∷ 5 ∷ 1 ∷ 1 ∷ 10 ∷ 15 ∷ []))
     ∷ (checkedForRun permeateWritten, (8 ∷ 1 ∷ 0 ∷ 0 ∷ 0 ∷ []))
+    ∷ (immediate permeateWritten 0, (8 ∷ 1 ∷ 0 ∷ 0 ∷ 0 ∷ 0 ∷ 0 ∷ 0 ∷ 0 ∷ 0 ∷ []))
+    ∷ (immediate permeateWritten 4, (8 ∷ 1 ∷ 0 ∷ 0 ∷ 0 ∷ 0 ∷ 0 ∷ 0 ∷ 0 ∷ 0 ∷ []))
+    -- P5: k = 0..4
+    ∷ (immediate feed 0, (0 ∷ 0 ∷ 0 ∷ 0 ∷ 0 ∷ 0 ∷ 0 ∷ []))
+    ∷ (immediate feed 1, (0 ∷ 0 ∷ 0 ∷ 1 ∷ 0 ∷ 4 ∷ 0 ∷ []))
+    ∷ (immediate feed 2, (0 ∷ 0 ∷ 0 ∷ 2 ∷ 1 ∷ 5 ∷ 0 ∷ []))
+    ∷ (immediate feed 3, (0 ∷ 0 ∷ 0 ∷ 3 ∷ 2 ∷ 6 ∷ 0 ∷ []))
+    ∷ (immediate feed 4, (0 ∷ 0 ∷ 0 ∷ 4 ∷ 4 ∷ 4 ∷ 0 ∷ []))
     -- P9: c = τ is accepted, c = τ + 1 refused 5 at the place of c
     ∷ (analyse (feedConsuming 7), (0 ∷ 0 ∷ 1 ∷ 4 ∷ 70 ∷ 10 ∷ 7 ∷ 10 ∷ 0 ∷ 0 ∷ 8 ∷ 70 ∷ []))
     ∷ (analyse (feedConsuming 8), (5 ∷ 28 ∷ 0 ∷ 0 ∷ 0 ∷ []))
     -- P10: y would be 65,521,000,000
     ∷ (analyse largeCycle, (6 ∷ 1 ∷ 0 ∷ 0 ∷ 0 ∷ []))
+    -- a fresh start, a manual firing of the source and one of the sink, which is below threshold: 11, place the node
+    ∷ (fresh feed, (0 ∷ 0 ∷ 0 ∷ 0 ∷ 0 ∷ 0 ∷ 0 ∷ []))
+    ∷ (fire feed (freshAnswer feed .run) 0, (0 ∷ 0 ∷ 0 ∷ 1 ∷ 0 ∷ 4 ∷ 0 ∷ []))
+    ∷ (fire feed (freshAnswer feed .run) 1, (11 ∷ 1 ∷ 0 ∷ 0 ∷ 0 ∷ 0 ∷ 0 ∷ []))
     ∷ []
 
 -- whether two lists of numbers are the same
@@ -87,5 +102,5 @@ right-rows (r ∷ rs) d h (suc i) l = right-rows rs d (both (same (r .1) (answer
 
 -- every figure of the table is right
 pub figures : (i : ℕ) → i < length table → getD table i (analyse feed, []) .1 ≡ answerTo (getD table i (analyse feed, []) .0)
-unfolding allRight factoryAnswer
+unfolding allRight factoryAnswer freshAnswer fired after
 figures = right-rows table (analyse feed, []) tt

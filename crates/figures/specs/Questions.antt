@@ -3,20 +3,29 @@
 --   signed z                 a number with its sign: 0 and z, or 1 and how far z is below 0
 --   sizes q, analysed a      a queue's line as numbers: x, y, minimum, naming count, capacity, signed margin; and the whole answer:
 --                            number, place, n, the first n lines, busy, cycle
+--   state c r                the answer of a call that gives a run state: number, place, clock; the counts of nodes 0 to n; what each of the
+--                            n queues holds; and the work done of the node that each feeds
 use mathlib.Core.List.{List, [], _∷_, _++_}
 use Prim.Native.Nat.{ℕ, suc}
 use lib.ListN.{getD}
 use lib.IntN.{ℤ, pos, negsuc}
-use Rattle.ardenquill.specs.Chains.{flat}
+use Rattle.ardenquill.specs.Chains.{tab, flat}
 use Rattle.ardenquill.specs.Analyses.{noSize, analyseAnswer, runAnswer}
+use Rattle.ardenquill.specs.Runs.{countAt, heldAt, doneAt, freshAnswer, fireAnswer}
+use Rattle.ardenquill.specs.Immediate.{immediateAnswer}
 use Rattle.chain.specs.declared.Chain.{Chain}
 use Rattle.sizing.specs.declared.QueueSize.{QueueSize}
 use Rattle.sizing.specs.declared.AnalysisAnswer.{AnalysisAnswer}
+use Rattle.state.specs.declared.Run.{Run}
+use Rattle.state.specs.declared.RunAnswer.{RunAnswer}
 
 -- a call with its arguments
 pub data Question : Type 0 where
   analyse : Chain → Question
   checkedForRun : Chain → Question
+  fresh : Chain → Question
+  fire : Chain → Run → ℕ → Question
+  immediate : Chain → ℕ → Question
 
 -- 0 and z, or 1 and how far z is below 0
 unfoldable pub signed : ℤ → List ℕ
@@ -33,8 +42,16 @@ unfoldable pub analysed : AnalysisAnswer → List ℕ
 unfolding flat sizes
 analysed r = r .number ∷ r .place ∷ r .analysis .n ∷ (flat (λ i. sizes (getD (r .analysis .queues) i noSize)) (r .analysis .n) ++ (r .analysis .busy ∷ r .analysis .cycle ∷ []))
 
+-- the whole answer as numbers, with the state's slots of the chain that was handed in
+unfoldable pub state : Chain → RunAnswer → List ℕ
+unfolding tab
+state c r = r .number ∷ r .place ∷ r .run .clock ∷ (tab (suc (c .n)) (countAt (r .run)) ++ (tab (c .n) (heldAt (r .run)) ++ tab (c .n) (doneAt (r .run))))
+
 -- what the call answers
 unfoldable pub answerTo : Question → List ℕ
-unfolding analysed analyseAnswer runAnswer
+unfolding analysed state analyseAnswer runAnswer freshAnswer fireAnswer immediateAnswer
 answerTo (analyse c) = analysed (analyseAnswer c)
 answerTo (checkedForRun c) = analysed (runAnswer c)
+answerTo (fresh c) = state c (freshAnswer c)
+answerTo (fire c s i) = state c (fireAnswer c s i)
+answerTo (immediate c k) = state c (immediateAnswer c k)
