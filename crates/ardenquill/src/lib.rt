@@ -7,6 +7,7 @@ ghost use Rattle.ardenquill.specs.Chains.{factoryAnswer};
 ghost use Rattle.ardenquill.specs.Analyses.{analyseAnswer};
 ghost use Rattle.ardenquill.specs.Reports.{reportText, reportRefusal};
 ghost use Rattle.ardenquill.specs.Runs.{freshAnswer, fireAnswer};
+ghost use Rattle.ardenquill.specs.Immediate.{immediateAnswer};
 pub use chain::Chain;
 pub use chain::ChainAnswer;
 pub use chain::Queue;
@@ -14,6 +15,7 @@ pub use chain::factory;
 pub use chainfile::LengthAnswer;
 pub use chainfile::read;
 pub use chainfile::write;
+pub use immediate::immediate;
 pub use report::headed;
 pub use report::refusal_line;
 pub use report::report;
@@ -82,4 +84,13 @@ pub extern "C" fn ardenquill_fire(chain: Chain, run: Run, node: u32) -> RunAnswe
     ensures { λ r. ⌜ r ≡ fireAnswer chain run node ⌝ }
 {
     run.fire(chain, node)
+}
+
+// The state after an immediate run of k source firings from a fresh start, or the first of 2, 4, 5, 6, 7, 8 and 9 that
+// refuses it.
+#[no_mangle]
+pub extern "C" fn ardenquill_immediate(chain: Chain, k: u32) -> RunAnswer
+    ensures { λ r. ⌜ r ≡ immediateAnswer chain k ⌝ }
+{
+    immediate(chain, k)
 }
