@@ -23,7 +23,7 @@ loop-holds : tie.Need-loop-holds Inv-loop μ-loop
 loop-holds c = replay-start _ _ (c .fresh .ensures)
 
 returns : tie.Need-returns Inv-loop μ-loop
-returns c = replayed _ _ (sym (stopped _ _ _ (c .if1 .taken)) ∙ c .before .before .before .loop .inv)
+returns c = replayed _ _ (sym (stopped _ (c .before .before .before .loop .answer) _ (λ z. omega (arith, c .if1 .taken))) ∙ c .before .before .before .loop .inv)
 
 mul-fire : tie.Need-mul-fire Inv-loop μ-loop
 mul-fire c = search needs
