@@ -10,9 +10,9 @@
 --                            what a history begins with
 --   permitted-may            a permitted firing, as its parts
 use mathlib.Core.Path.{_≡_, refl}
-use mathlib.Core.Bool.{Bool, cond}
+use mathlib.Core.Bool.{cond}
 use mathlib.Core.List.{List, [], _∷_, _++_}
-use Prim.Native.Nat.{ℕ, zero, suc, _≤_, _<_}
+use Prim.Native.Nat.{ℕ, suc, _≤_, _<_}
 use lib.Dec.{eqb}
 use Rattle.chain.specs.Refusals.{Silent}
 use Rattle.chain.specs.Record.{rowOf}

@@ -1,9 +1,8 @@
 -- The laws of every permitted history of an accepted chain, from a fresh start (01, Firing, and demand 3).
---   fresh-slots, fresh-held, fresh-count
---                            a fresh start has a slot for each node and queue, each queue holds what it starts with, and no node has fired
+--   fresh-slots              a fresh start has a slot for each node and queue
 --   fresh-contents, fresh-allowed, fresh-settled
 --                            what queue j sees of a permitted history: what is held, each take finds τ, and in a prompt one no put does
---   counted                  a node's count is how often it fired
+--   counted-from, counted    a node's count has grown by how often it fired, and from a fresh start is that
 --   balance                  what a queue started with and what was put into it is what it holds and what was taken from it
 --   naming                   a producer that fired the naming count has shown the minimum, in whatever permitted order
 --   peak-end, peak           a prompt order does not pass the minimum, at its end or at any moment
@@ -12,19 +11,19 @@
 use mathlib.Core.Path.{_≡_, refl, sym, subst, _∙_}
 use mathlib.Core.Logic.{by-cases}
 use mathlib.Core.List.{List, [], _∷_, _++_}
-use Prim.Native.Nat.{ℕ, zero, suc, _+_, _*_, _≤_, _<_}
+use Prim.Native.Nat.{ℕ, suc, _+_, _*_, _≤_, _<_}
 use native.Mathlib.Nat.{le-trans, le-antisymm}
 use native.Mathlib.Decide.{ℕ-discrete}
 use native.Mathlib.Omega.{arith}
-use lib.ListN.{getD, replicate, length-replicate}
-use Rattle.words.specs.Table.{length-tab, slot-used}
+use lib.ListN.{length, length-replicate}
+use Rattle.words.specs.Table.{length-tab}
 use Rattle.chain.specs.Record.{rowOf}
 use Rattle.chain.specs.Sound.{Sound, SoundRow}
 use Rattle.chain.specs.declared.Chain.{Chain}
 use Rattle.sizing.specs.Sizes.{start, minimumOf, namingOf}
 use Rattle.sizing.specs.Accepted.{Accepted}
-use Rattle.state.specs.State.{countAt, heldAt, freshRun}
-use Rattle.state.specs.Fired.{fired, Slots, slots-kept, count-fired, count-other}
+use Rattle.state.specs.State.{countAt, heldAt, freshRun, fresh-count, fresh-held}
+use Rattle.state.specs.Fired.{fired, Slots, counts-length, count-fired, count-other}
 use Rattle.state.specs.declared.Run.{Run}
 use Rattle.events.specs.Events as one
 use Rattle.events.specs.Events.{contents, Allowed, Settled, Holds}
@@ -33,51 +32,37 @@ use Rattle.events.specs.Naming.{naming-law}
 use Rattle.history.specs.History.{times, after, Permitted, Prompt, HasHeld, permitted-before, prompt-before}
 use Rattle.history.specs.Queues.{events, times-again, times-other, puts-times, takes-times, Cut, cut, held-contents, queue-allowed, queue-settled}
 
--- in a list of one number, and past its end, there is no other
-filled : (n i z : ℕ) → getD (replicate n z) i z ≡ z
-filled zero i z = refl
-filled (suc n) zero z = refl
-filled (suc n) (suc i) z = filled n i z
-
-pub fresh-count : (c : Chain) (i : ℕ) → countAt (freshRun c) i ≡ 0
-unfolding freshRun
-fresh-count c i = filled 17 i 0
-
 pub fresh-slots : (c : Chain) → Sound c → Slots (c .n) (freshRun c)
 unfolding freshRun
 fresh-slots c a = record { counts = omega (arith, a .count .1, length-replicate {A = ℕ} 17 0); held = rw (length-tab 16 _) (a .count .1) }
 
-pub fresh-held : (c : Chain) → Sound c → (j : ℕ) → j < c .n → heldAt (freshRun c) j ≡ start (rowOf c j)
-unfolding freshRun
-fresh-held c a j l = slot-used (λ i. start (rowOf c i)) 0 16 (c .n) j 0 (omega (arith, a .count .1)) l
-
 -- from any state that has a count for N_i
-counted-from : {n : ℕ} (c : Chain) (s : Run) (h : List ℕ) (i : ℕ) → Slots n s → i ≤ n → countAt (after c s h) i ≡ countAt s i + times i h
+pub counted-from : (c : Chain) (s : Run) (h : List ℕ) (i : ℕ) → i < length (s .counts) → countAt (after c s h) i ≡ countAt s i + times i h
 unfolding after times
-counted-from c s [] i k l = omega arith
-counted-from c s (j ∷ h) i k l = counted-from c (fired c s j) h i (slots-kept c s j k) l ∙ by-cases (ℕ-discrete j i)
-    (λ e. rw (times-again j i h e, e, count-fired c s i (omega (arith, k .counts))) (omega arith))
+counted-from c s [] i l = omega arith
+counted-from c s (j ∷ h) i l = counted-from c (fired c s j) h i (omega (arith, counts-length c s j)) ∙ by-cases (ℕ-discrete j i)
+    (λ e. rw (times-again j i h e, e, count-fired c s i l) (omega arith))
     (λ n. rw (times-other j i h n, count-other c s j i (λ e. n (sym e))) refl)
 
 -- whether or not the firings were accepted
 pub counted : (c : Chain) → Accepted c → (h : List ℕ) (i : ℕ) → i ≤ c .n → countAt (after c (freshRun c) h) i ≡ times i h
-counted c a h i l = omega (arith, counted-from c (freshRun c) h i (fresh-slots c (a .chain)) l, fresh-count c i)
+counted c a h i l = omega (arith, counted-from c (freshRun c) h i (omega (arith, fresh-slots c (a .chain) .counts)), fresh-count c i)
 
 -- what queue j sees of h, from what it starts with
 module _ (c : Chain) (a : Accepted c) (j : ℕ) (l : j < c .n) (h : List ℕ) (ok : Permitted c (freshRun c) h) where
   pub fresh-contents : heldAt (after c (freshRun c) h) j ≡ contents (rowOf c j .produce) (rowOf c j .consume) (start (rowOf c j)) (events j h)
   fresh-contents =
-      subst (λ (x : ℕ). heldAt (after c (freshRun c) h) j ≡ contents (rowOf c j .produce) (rowOf c j .consume) x (events j h)) (fresh-held c (a .chain) j l)
+      subst (λ (x : ℕ). heldAt (after c (freshRun c) h) j ≡ contents (rowOf c j .produce) (rowOf c j .consume) x (events j h)) (fresh-held (a .chain) j l)
       (held-contents c j l (freshRun c) h (fresh-slots c (a .chain)) ok)
 
   pub fresh-allowed : Allowed (rowOf c j .produce) (rowOf c j .threshold) (rowOf c j .consume) (start (rowOf c j)) (events j h)
   fresh-allowed =
-      subst (λ (x : ℕ). Allowed (rowOf c j .produce) (rowOf c j .threshold) (rowOf c j .consume) x (events j h)) (fresh-held c (a .chain) j l)
+      subst (λ (x : ℕ). Allowed (rowOf c j .produce) (rowOf c j .threshold) (rowOf c j .consume) x (events j h)) (fresh-held (a .chain) j l)
       (queue-allowed c j l (freshRun c) h (fresh-slots c (a .chain)) ok)
 
   pub fresh-settled : Prompt c (freshRun c) h → Settled (rowOf c j .produce) (rowOf c j .threshold) (rowOf c j .consume) (start (rowOf c j)) (events j h)
   fresh-settled low =
-      subst (λ (x : ℕ). Settled (rowOf c j .produce) (rowOf c j .threshold) (rowOf c j .consume) x (events j h)) (fresh-held c (a .chain) j l)
+      subst (λ (x : ℕ). Settled (rowOf c j .produce) (rowOf c j .threshold) (rowOf c j .consume) x (events j h)) (fresh-held (a .chain) j l)
       (queue-settled c j l (freshRun c) h (fresh-slots c (a .chain)) ok low)
 
 -- at some moment of h, which is the end of what h begins with, queue j holds exactly b

@@ -1,6 +1,5 @@
 -- What holds of every state that firings lead to from a fresh start, whatever their order (01, Firing; 004, Lemma 5.1).
 --   Reached c s              such a state: clock and work done 0, each queue's balance, and no consumer ahead of what its threshold allows
---   fresh-held, -count       what a queue holds at a fresh start, and a count then
 --   reached-fresh            a fresh start is one
 --   reached-slots            it has a count for each node and a slot for each queue
 --   reached-done             no node has work done
@@ -22,16 +21,16 @@ use native.Mathlib.Nat.{mul-zero}
 use native.Mathlib.Decide.{ℕ-discrete, decLt, decLe}
 use native.Mathlib.Omega.{arith}
 use lib.Dec.{ltb}
-use lib.ListN.{length, getD, replicate, length-replicate}
+use lib.ListN.{length, getD, replicate, length-replicate, List·getD-eq-default}
 use lib.Seq.{ext-getD}
-use Rattle.words.specs.Table.{slots, length-tab, slot-used, slot-free}
+use Rattle.words.specs.Table.{slots, length-tab, slot-free}
 use Rattle.chain.specs.Record.{rowOf}
 use Rattle.chain.specs.Sound.{Sound}
 use Rattle.chain.specs.declared.Chain.{Chain}
 use Rattle.events.specs.Counts.{fires-is}
 use Rattle.events.specs.Peak.{room}
 use Rattle.sizing.specs.Sizes.{start, minimumOf}
-use Rattle.state.specs.State.{countAt, heldAt, doneAt, freshRun, same-run}
+use Rattle.state.specs.State.{countAt, heldAt, doneAt, freshRun, zeros, fresh-count, fresh-held, same-run}
 use Rattle.state.specs.Fired.{fired, Over, Balance, Slots, counts-length, holds-length, count-fired, count-other, held-sink, balance-kept}
 use Rattle.state.specs.declared.Run.{Run}
 use Rattle.history.specs.History.{after, Permitted, permitted-may}
@@ -49,31 +48,12 @@ pub record Reached (c : Chain) (s : Run) : Type 0 where
   pub counts-past : (j : ℕ) → c .n < j → countAt s j ≡ 0
   pub held-past : (j : ℕ) → c .n ≤ j → heldAt s j ≡ 0
 
--- a slot past the end, and every slot of a table of zeros, is 0
-getD-past : (l : List ℕ) (i : ℕ) → length l ≤ i → getD l i 0 ≡ 0
-getD-past [] i m = refl
-getD-past (x ∷ l) zero m = absurd (omega arith)
-getD-past (x ∷ l) (suc i) m = getD-past l i (omega arith)
-
-zeros : (N i : ℕ) → _≡_ {A = ℕ} (getD (replicate N 0) i 0) 0
-zeros zero i = refl
-zeros (suc N) zero = refl
-zeros (suc N) (suc i) = zeros N i
-
--- "every queue starts empty" and no node has fired: what each slot has at a fresh start
-pub fresh-held : {c : Chain} → Sound c → (j : ℕ) → j < c .n → heldAt (freshRun c) j ≡ start (rowOf c j)
-unfolding freshRun
-fresh-held {c} k j l = slot-used (λ i. start (rowOf c i)) 0 16 (c .n) j 0 (omega (arith, k .count .1)) l
-
+-- at a fresh start, a slot past the chain's queues is 0
 fresh-past : (c : Chain) (j : ℕ) → c .n ≤ j → heldAt (freshRun c) j ≡ 0
 unfolding freshRun
 fresh-past c j l = by-cases (decLt j 16)
     (λ m. slot-free (λ i. start (rowOf c i)) 0 16 (c .n) j 0 m l)
-    (λ f. getD-past (slots (λ i. start (rowOf c i)) 0 16 (c .n)) j (omega (arith, length-tab 16 (λ i. cond (ltb i (c .n)) (start (rowOf c i)) 0))))
-
-pub fresh-count : (c : Chain) (j : ℕ) → countAt (freshRun c) j ≡ 0
-unfolding freshRun
-fresh-count c j = zeros 17 j
+    (λ f. List·getD-eq-default (slots (λ i. start (rowOf c i)) 0 16 (c .n)) 0 {n = j} (omega (arith, length-tab 16 (λ i. cond (ltb i (c .n)) (start (rowOf c i)) 0))))
 
 -- what a queue starts with, and no firing yet
 fresh-balance : (s p d N M x : ℕ) → N ≡ 0 → M ≡ 0 → x ≡ s → s + p * N ≡ x + d * M

@@ -7,7 +7,6 @@
 --   next-one, HasNext, next-some
 --                            there is exactly one such node in every state
 --   Follows c s h            each firing of h, from s on, is by the rule; follows-append: histories one after the other
---   counted                  a node's count after a history
 --   Ran c s i M h            what firings h by the rule leave of N_i and the nodes after it
 --   Bursts c i f, burst-runs each burst of N_i takes its count from N to N + 1 and settles the queues after it
 --   rule, ends, source, reached, counts-are-F
@@ -20,14 +19,13 @@
 --                            so manual firing accepts each of its firings in turn, the capacities being enough and the counts within the limit
 --   any-order                any permitted order that ends so leads to the schedule's state
 use mathlib.Core.Path.{_≡_, refl, sym, ap, ap₂, subst, _∙_}
-use mathlib.Core.Logic.{_≢_, _⊎_, ⊎-elim, by-cases}
+use mathlib.Core.Logic.{_⊎_, ⊎-elim, by-cases}
 use mathlib.Core.List.{List, [], _∷_, _++_, append-nil, append-assoc}
 use Prim.Native.Nat.{ℕ, zero, suc, _+_, _-_, _*_, _≤_, _<_}
 use native.Mathlib.Nat.{le-refl, le-trans, lt-of-not-le, add-zero, zero-add}
 use native.Mathlib.Decide.{ℕ-discrete, decLe}
 use native.Mathlib.Omega.{arith}
 use lib.ListN.{length}
-use borrow.Author.Tests.{eq-eqb, ne-eqb}
 use Rattle.chain.specs.Record.{rowOf}
 use Rattle.chain.specs.Sound.{Sound}
 use Rattle.chain.specs.declared.Chain.{Chain}
@@ -37,13 +35,15 @@ use Rattle.events.specs.Counts.{fires, fires-reach, fires-settles}
 use Rattle.sizing.specs.Sizes.{start, minimumOf, capacityOf}
 use Rattle.sizing.specs.Checks.{limit, Enough}
 use Rattle.sizing.specs.Accepted.{Accepted}
-use Rattle.state.specs.State.{countAt, heldAt, freshRun}
+use Rattle.state.specs.State.{countAt, heldAt, freshRun, fresh-count, fresh-held}
 use Rattle.state.specs.Fired.{fired, Over, counts-length, count-fired, count-other, held-output, held-input, held-other}
 use Rattle.state.specs.Fire.{fire-accepts}
 use Rattle.state.specs.declared.Run.{Run}
 use Rattle.history.specs.History.{times, after, Permitted, Prompt, after-append}
+use Rattle.history.specs.Queues.{times-again, times-other}
+use Rattle.history.specs.Laws.{counted-from}
 use Rattle.schedule.specs.Counts.{fed, F, fed-mono}
-use Rattle.schedule.specs.Reached.{Reached, Calm, reached-fresh, reached-fired, reached-slots, reached-done, reached-after, fresh-calm, fresh-count, fresh-held, calm-counts, counts, one-state, below-minimum}
+use Rattle.schedule.specs.Reached.{Reached, Calm, reached-fresh, reached-fired, reached-slots, reached-done, reached-after, fresh-calm, calm-counts, counts, one-state, below-minimum}
 
 -- f at N, N + 1, .., r of them
 unfoldable pub joined : (ℕ → List ℕ) → ℕ → ℕ → List ℕ
@@ -122,25 +122,6 @@ pub follows-prompt : (c : Chain) (s : Run) (h : List ℕ) → Follows c s h → 
 unfolding Follows Prompt
 follows-prompt c s [] f = tt
 follows-prompt c s (i ∷ h) f = (f .0 .nearest i (le-refl i), follows-prompt c (fired c s i) h (f .1))
-
--- how often N_i stands in a history, by its first node
-times-here : (i j : ℕ) (h : List ℕ) → j ≡ i → times i (j ∷ h) ≡ suc (times i h)
-unfolding times
-times-here i j h e = simp (eq-eqb j i e)
-
-times-there : (i j : ℕ) (h : List ℕ) → j ≢ i → times i (j ∷ h) ≡ times i h
-unfolding times
-times-there i j h ne = simp (ne-eqb j i ne)
-
-times-first : (c : Chain) (s : Run) (j : ℕ) (h : List ℕ) (i : ℕ) → i < length (s .counts) → countAt (fired c s j) i + times i h ≡ countAt s i + times i (j ∷ h)
-times-first c s j h i l = by-cases (ℕ-discrete j i)
-    (λ e. let once : countAt (fired c s j) i ≡ countAt s i + 1 = rw e (count-fired c s i l) in omega (arith, once, times-here i j h e))
-    (λ ne. omega (arith, count-other c s j i (λ e. ne (sym e)), times-there i j h ne))
-
-pub counted : (c : Chain) (s : Run) (h : List ℕ) (i : ℕ) → i < length (s .counts) → countAt (after c s h) i ≡ countAt s i + times i h
-unfolding after times
-counted c s [] i l = sym (add-zero (countAt s i))
-counted c s (j ∷ h) i l = counted c (fired c s j) h i (omega (arith, counts-length c s j)) ∙ times-first c s j h i l
 
 -- what firings by the rule from s leave, of N_i and the nodes after it: N_i has fired M times, no node after it is over threshold, and no node
 -- before it has fired
@@ -244,18 +225,18 @@ module _ {c : Chain} (k : Sound c) (n : ℕ) where
   counts-are-F j l = counts k reached ends j l ∙ ap (λ (m : ℕ). F c m j) (schedule-runs c k n .ends)
 
   pub source : times 0 (schedule c n) ≡ n
-  source = omega (arith, counted c (freshRun c) (schedule c n) 0 (omega (arith, reached-fresh k .wide)), fresh-count c 0, schedule-runs c k n .ends)
+  source = omega (arith, counted-from c (freshRun c) (schedule c n) 0 (omega (arith, reached-fresh k .wide)), fresh-count c 0, schedule-runs c k n .ends)
 
 -- where no node but the source is over threshold, a history by the rule goes on with the source
 goes-on : (c : Chain) (s : Run) (j : ℕ) (h : List ℕ) → Calm c s 0 → Next c s j → 0 < times 0 (j ∷ h)
-goes-on c s zero h calm next = omega (arith, times-here 0 0 h refl)
+goes-on c s zero h calm next = omega (arith, times-again 0 0 h refl)
 goes-on c s (suc j) h calm next = absurd (omega (arith, calm j (omega arith) (next .node), next .over))
 
 -- how often the source fires after a first node
 times-rest : (i j : ℕ) (g h : List ℕ) → i ≡ j → times 0 (i ∷ g) ≡ times 0 (j ∷ h) → times 0 g ≡ times 0 h
 times-rest i j g h same e = by-cases (ℕ-discrete i 0)
-    (λ z. omega (arith, times-here 0 i g z, times-here 0 j h (sym same ∙ z), e))
-    (λ ne. omega (arith, times-there 0 i g ne, times-there 0 j h (λ z. ne (same ∙ z)), e))
+    (λ z. omega (arith, times-again i 0 g z, times-again j 0 h (sym same ∙ z), e))
+    (λ ne. omega (arith, times-other i 0 g ne, times-other j 0 h (λ z. ne (same ∙ z)), e))
 
 -- from one state, the rule leads in one way to the next state in which no node but the source is over threshold, and the next
 pub follows-alike : (c : Chain) (s : Run) (g h : List ℕ) → Follows c s g → Follows c s h → Calm c (after c s g) 0 → Calm c (after c s h) 0 → times 0 g ≡ times 0 h → g ≡ h
@@ -308,7 +289,7 @@ follows-permitted {c} a enough s (i ∷ h) r tight most f =
     let next : Next c s i = f .0 in
     let slot : i < length (s .counts) = omega (arith, reached-slots k r .counts, next .node) in
     let cap : (j : ℕ) → j < c .n → minimumOf (rowOf c j) ≤ capacityOf (rowOf c j) = λ j l. enough-holds _ _ (enough j l) in
-    let later : countAt (fired c s i) i ≤ limit = omega (arith, counted c (fired c s i) h i (omega (arith, counts-length c s i)), most i (next .node)) in (
+    let later : countAt (fired c s i) i ≤ limit = omega (arith, counted-from c (fired c s i) h i (omega (arith, counts-length c s i)), most i (next .node)) in (
       fire-accepts c s i .1 (
         a,
         (
@@ -338,4 +319,4 @@ unfolding F
 any-order {c} k h p calm =
     let n : ℕ = times 0 h in
     one-state k (reached-after k h p) (reached k n) calm (ends k n)
-    (omega (arith, counted c (freshRun c) h 0 (omega (arith, reached-fresh k .wide)), fresh-count c 0, counts-are-F k n 0 (omega arith)))
+    (omega (arith, counted-from c (freshRun c) h 0 (omega (arith, reached-fresh k .wide)), fresh-count c 0, counts-are-F k n 0 (omega arith)))

@@ -3,7 +3,7 @@ use mathlib.Core.Path.{_≡_, refl, sym, ap, _∙_}
 use mathlib.Core.Bool.{Bool, true, false, cond}
 use Prim.Native.Nat.{ℕ}
 use lib.Dec.{eqb}
-use Rattle.chain.specs.Refusals.{fine, refused, first, orElse, Silent, silent-as, first-fine, or-left, or-right, or-silents}
+use Rattle.chain.specs.Refusals.{refused, first, Silent, silent-as, first-fine, or-left, or-right}
 use Rattle.chain.specs.declared.Refusal.{Refusal}
 use Rattle.chain.specs.declared.Chain.{Chain}
 use Rattle.sizing.specs.Sizes.{sized}
@@ -15,7 +15,6 @@ use Rattle.state.specs.Fired.{fired, Firing}
 use Rattle.state.specs.Checks.{stateCheck, Analysed}
 use Rattle.state.specs.Fire.{freshAnswer, nodeChecks, fireChecks, fireRefusal, fireAnswer, fire-parts, fire-accepts}
 use Rattle.state.specs.declared.Run.{Run}
-use Rattle.state.specs.declared.RunAnswer.{RunAnswer}
 
 module _ (c : Chain) {a : AnalysisAnswer} (e : a ≡ analyseAnswer c) where
   -- what the analysis is refused with

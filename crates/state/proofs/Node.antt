@@ -5,7 +5,7 @@ use mathlib.Core.Logic.{_≢_}
 use Prim.Native.Nat.{ℕ, _≤_, _<_}
 use native.Mathlib.Omega.{arith}
 use borrow.Author.Tests.{lt-leb, lt-ltb, le-ltb}
-use Rattle.chain.specs.Refusals.{refused, fine, test, first, orElse, Silent, number-of, or-left, or-right, test-exact, test-silent, test-alone}
+use Rattle.chain.specs.Refusals.{refused, fine, first, orElse, Silent, number-of, or-left, or-right, test-exact, test-silent, test-alone}
 use Rattle.chain.specs.declared.Chain.{Chain}
 use Rattle.chain.specs.declared.Refusal.{Refusal}
 use Rattle.sizing.specs.Checks.{limit}

@@ -11,14 +11,13 @@
 --   fire-accepts               it is not refused exactly when the chain is accepted, the state passes 17 and the firing may be
 --   fire-accepted, fire-refused
 --                              the state that it gives back
-use mathlib.Core.Path.{_≡_, refl, sym, ap, _∙_}
+use mathlib.Core.Path.{_≡_, sym, _∙_}
 use mathlib.Core.Logic.{_↔_, _≢_, _⊎_, inl, ⊎-elim, Iff·trans, Iff·and, Iff·rfl}
 use mathlib.Core.List.{List, [], _∷_, _++_}
-use Prim.Native.Nat.{ℕ, suc, _+_, _*_, _≤_, _<_}
+use Prim.Native.Nat.{ℕ, _+_, _*_, _≤_, _<_}
 use native.Mathlib.Omega.{arith}
 use lib.ListN.{getD, take}
 use borrow.Author.Tests.{eq-eqb, ne-eqb}
-use Rattle.words.specs.Table.{tab}
 use Rattle.chain.specs.Refusals.{refused, fine, first, orElse, first-append, Silent, Silents, number-of, or-says, or-silents, silent-as, first-silent, Numbered, exact-at, Only}
 use Rattle.chain.specs.Record.{rowOf}
 use Rattle.chain.specs.Checks.{rangeCheck, orderCheck, count-only, range-only, order-only}
@@ -28,8 +27,8 @@ use Rattle.sizing.specs.Load.{busyIn}
 use Rattle.sizing.specs.Sizes.{capacityOf}
 use Rattle.sizing.specs.Checks.{limit, analyseChecks, analyseRefusal, rateCheck, rate-only, load-only}
 use Rattle.sizing.specs.Accepted.{Accepted, analyse-accepts}
-use Rattle.state.specs.State.{countAt, heldAt, emptyRun, freshRun, answered, answered-refused, answered-fine}
-use Rattle.state.specs.Fired.{fired, Over, Room, May}
+use Rattle.state.specs.State.{countAt, heldAt, emptyRun, freshRun, answered}
+use Rattle.state.specs.Fired.{fired, Over, May}
 use Rattle.state.specs.Checks as own
 use Rattle.state.specs.Checks.{stateCheck, countCheck, overCheck, cramped, roomCheck, FirstBroken, StateSound, state-exact, over-exact, room-exact, state-silent, over-silent, room-silent, state-only, over-only, room-only}
 use Rattle.state.specs.declared.Run.{Run}

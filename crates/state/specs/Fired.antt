@@ -10,7 +10,7 @@
 --   held-output, -input, -other, -sink
 --                            its output queue has p more and its input queue c less, said with no minus; every other queue is as it was
 --   balance-kept             so each queue's balance is kept
-use mathlib.Core.Path.{_≡_, refl, sym, ap, subst, _∙_}
+use mathlib.Core.Path.{_≡_, refl, sym, ap, _∙_}
 use mathlib.Core.Bool.{Bool, true, false, cond}
 use mathlib.Core.Logic.{_≢_, by-cases}
 use mathlib.Core.List.{List}

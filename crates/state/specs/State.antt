@@ -4,21 +4,23 @@
 --   doneAt s i               the ticks that N_(i+1) has worked on the firing that it has begun
 --   emptyRun                 the state of a refused call: all zero
 --   freshRun c               a fresh start; fresh-empty: which is the same, since every queue starts empty
---   fresh-held               what a queue holds then
+--   zeros                    every slot of a list of zeros, and past its end, is 0
+--   fresh-count, fresh-held  then no node has fired, and each queue holds what it starts with
 --   answered r s t           the answer of a call: the refusal r with the state s, or the state t where r is silent
 --   answered-refused, -fine  its two cases
 --   same-run                 states of equal parts are equal
-use mathlib.Core.Path.{_≡_, refl, sym, ap}
+use mathlib.Core.Path.{_≡_, refl, ap}
 use mathlib.Core.Bool.{cond}
 use mathlib.Core.List.{List}
-use Prim.Native.Nat.{ℕ, zero, suc, _≤_, _<_}
+use Prim.Native.Nat.{ℕ, zero, suc, _<_}
 use native.Mathlib.Omega.{arith}
 use lib.Dec.{eqb}
 use lib.ListN.{getD, replicate, length-replicate, getD-replicate}
-use borrow.Author.Tests.{eq-eqb, ne-eqb}
+use borrow.Author.Tests.{ne-eqb}
 use Rattle.words.specs.Table.{tab, slots, is-slots, slot-used}
 use Rattle.chain.specs.Refusals.{fine, Silent}
 use Rattle.chain.specs.Record.{rowOf}
+use Rattle.chain.specs.Sound.{Sound}
 use Rattle.chain.specs.declared.Refusal.{Refusal}
 use Rattle.chain.specs.declared.Chain.{Chain}
 use Rattle.sizing.specs.Sizes.{start}
@@ -52,6 +54,19 @@ unfolding freshRun
 fresh-empty c =
     ap (λ (h : List ℕ). record { clock = 0; counts = replicate 17 0; held = h; done = replicate 16 0 })
     (is-slots (λ i. start (rowOf c i)) 0 16 (c .n) 0 (replicate 16 0) (length-replicate {A = ℕ} 16 0) (λ i l h. getD-replicate {A = ℕ} 16 i 0 0 l) (λ i l h. getD-replicate {A = ℕ} 16 i 0 0 l))
+
+pub zeros : (n i : ℕ) → _≡_ {A = ℕ} (getD (replicate n 0) i 0) 0
+zeros zero i = refl
+zeros (suc n) zero = refl
+zeros (suc n) (suc i) = zeros n i
+
+pub fresh-count : (c : Chain) (i : ℕ) → countAt (freshRun c) i ≡ 0
+unfolding freshRun
+fresh-count c i = zeros 17 i
+
+pub fresh-held : {c : Chain} → Sound c → (j : ℕ) → j < c .n → heldAt (freshRun c) j ≡ start (rowOf c j)
+unfolding freshRun
+fresh-held {c} k j l = slot-used (λ i. start (rowOf c i)) 0 16 (c .n) j 0 (omega (arith, k .count .1)) l
 
 -- "a refusal gives number and place, run state as before": s is what is given back then, t what a call that is not refused makes
 unfoldable pub answered : Refusal → Run → Run → RunAnswer

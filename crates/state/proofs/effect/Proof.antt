@@ -1,5 +1,5 @@
 -- `state::effect` meets its contract: p goes into the output queue, then c leaves the input queue, and the count has grown.
-use mathlib.Core.Path.{_≡_, refl, sym, ap, _∙_}
+use mathlib.Core.Path.{_≡_, refl, _∙_}
 use mathlib.Core.Logic.{⊎-elim, _≢_}
 use Prim.Native.Nat.{ℕ, zero, suc, _+_, _-_, _≤_, _<_}
 use native.Mathlib.Omega.{arith}
@@ -12,7 +12,7 @@ use Rattle.chain.specs.Record.{rowOf}
 use Rattle.chain.specs.declared.Chain.{Chain}
 use Rattle.sizing.specs.Sizes.{capacity-most}
 use Rattle.state.specs.State.{countAt, heldAt}
-use Rattle.state.specs.Fired.{produced, consumed, fired, produced-other, Over, Firing}
+use Rattle.state.specs.Fired.{produced, consumed, fired, produced-other, Firing}
 use Rattle.state.specs.declared.Run.{Run}
 use borrow.Author.Needs.{needs}
 use Rattle.state.proofs.effect.Statement.{statement}
