@@ -60,14 +60,13 @@ pub fn effect(chain: Chain, run: Run, i: usize) -> Run
     ensures { λ r. ⌜ r ≡ fired chain run i ⌝ }
 {
     let mut s = run;
-    s.counts[i] = s.counts[i] + 1;
+    s.counts[i] += 1;
     if i < chain.n as usize {
-        let q = chain.queues[i];
-        s.held[i] = s.held[i] + q.produce;
+        s.held[i] += chain.queues[i].produce;
     }
     if 0 < i {
-        let q = chain.queues[i - 1];
-        s.held[i - 1] = s.held[i - 1] - q.consume;
+        let j = i - 1;
+        s.held[j] -= chain.queues[j].consume;
     }
     s
 }

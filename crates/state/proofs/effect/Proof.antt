@@ -1,12 +1,12 @@
 -- `state::effect` meets its contract: p goes into the output queue, then c leaves the input queue, and the count has grown.
 use mathlib.Core.Path.{_≡_, refl, _∙_}
 use mathlib.Core.Logic.{⊎-elim, _≢_}
-use Prim.Native.Nat.{ℕ, zero, suc, _+_, _-_, _≤_, _<_}
+use Prim.Native.Nat.{ℕ, zero, suc, _+_, _-_, _*_, _≤_, _<_}
 use native.Mathlib.Omega.{arith}
 use lib.ListN.{getD, set}
 use mathlib.Core.List.{List}
 use mir.Val.{Fits}
-use mir.Syntax.{w32}
+use mir.Syntax.{w32, w64}
 use borrow.Author.Tests.{lt-ltb, le-ltb}
 use Rattle.chain.specs.Record.{rowOf}
 use Rattle.chain.specs.declared.Chain.{Chain}
@@ -27,7 +27,7 @@ withHeld r h = record { clock = r .clock; counts = r .counts; held = h; done = r
 
 mid : (c : tie.Joined1) → c .if1 .s ≡ half (c .before .before .args .t1) (c .before .before .args .run) (c .before .before .args .i)
 unfolding produced
-mid c = ⊎-elim (λ w. w .4 ∙ simp (lt-ltb _ _ (w .0 .taken))) (λ w. w .1 ∙ simp (le-ltb _ _ (w .0 .left))) (c .if1 .came)
+mid c = ⊎-elim (λ w. w .2 ∙ simp (lt-ltb _ _ (w .0 .taken))) (λ w. w .1 ∙ simp (le-ltb _ _ (w .0 .left))) (c .if1 .came)
 
 -- the input queue, which the production leaves alone, holds what is taken
 takes : {c : Chain} {s : Run} (i : ℕ) → Firing c s i → 0 < i → rowOf c (i - 1) .consume ≤ heldAt s (i - 1)
@@ -46,92 +46,98 @@ module _ (c : Chain) (s : Run) where
   none-taken zero l = refl
   none-taken (suc j) l = absurd (omega arith)
 
+-- the slots of a firing of N_i: its count, its output queue and its input queue, and how far in they lie
+module _ {c : Chain} {s : Run} {i : ℕ} (k : Firing c s i) where
+  few : Fits w64 (c .n)
+  few = record { fits = omega (arith, k .chain .count .1) }
+
+  count : i < 17
+  count = omega (arith, k .may .node, k .chain .count .1)
+
+  count-at : Fits w64 (i * 4)
+  count-at = record { fits = omega (arith, count) }
+
+  row-at : Fits w64 (i * 20)
+  row-at = record { fits = omega (arith, count) }
+
+  output : i < c .n → i < 16
+  output l = omega (arith, k .chain .count .1)
+
+  input : i - 1 < 16
+  input = omega (arith, count)
+
+  input-at : Fits w64 ((i - 1) * 4)
+  input-at = record { fits = omega (arith, input) }
+
+  input-row-at : Fits w64 ((i - 1) * 20)
+  input-row-at = record { fits = omega (arith, input) }
+
+  puts : i < c .n → Fits w32 (heldAt s i + rowOf c i .produce)
+  puts l = record { fits = omega (arith, k .may .room l, capacity-most (k .chain .rows i l)) }
+
+  -- what the removal finds, after the production
+  found : 0 < i → rowOf c (i - 1) .consume ≤ getD (produced c i (s .held)) (i - 1) 0
+  found l = let ne : i - 1 ≢ i = λ e. omega arith in rw (produced-other c i (s .held) (i - 1) ne) (takes i k l)
+
 mul-s : tie.Need-mul-s
-mul-s c = search needs
+mul-s c = count-at (c .pre)
 
 element-copy-out-s : tie.Need-element-copy-out-s
-element-copy-out-s c = search needs
+element-copy-out-s c = count (c .pre)
 
 add-s : tie.Need-add-s
 add-s c = let fits : Fits w32 (countAt (c .before .args .run) (c .before .args .i)) = search needs in record { fits = omega (arith, fits .fits, c .before .pre .may .countable) }
 
-mul-s-2 : tie.Need-mul-s-2
-mul-s-2 c = search needs
-
 element-write-s : tie.Need-element-write-s
-element-write-s c = search needs
+element-write-s c = count (c .before .pre)
 
 cast-if1 : tie.Need-cast-if1
-cast-if1 c = search needs
+cast-if1 c = few (c .before .pre)
 
-mul-q : tie.Need-mul-q
-mul-q c = search needs
-
-element-copy-out-q : tie.Need-element-copy-out-q
-element-copy-out-q c = search needs
-
-mul-s-3 : tie.Need-mul-s-3
-mul-s-3 c = search needs
+mul-s-2 : tie.Need-mul-s-2
+mul-s-2 c = row-at (c .before .before .pre)
 
 element-copy-out-s-2 : tie.Need-element-copy-out-s-2
-element-copy-out-s-2 c = search needs
+element-copy-out-s-2 c = output (c .before .before .pre) (c .if1 .taken)
 
-add-s-2 : tie.Need-add-s-2
-add-s-2 c =
-    let k = c .before .before .before .before .before in
-    let l = c .before .before .before .if1 .taken in
-    record { fits = omega (arith, k .pre .may .room l, capacity-most (k .pre .chain .rows (k .args .i) l)) }
-
-mul-s-4 : tie.Need-mul-s-4
-mul-s-4 c = search needs
-
-element-write-s-2 : tie.Need-element-write-s-2
-element-write-s-2 c = search needs
-
-sub-q : tie.Need-sub-q
-sub-q c = search needs
-
-mul-q-2 : tie.Need-mul-q-2
-mul-q-2 c = search needs
-
-element-copy-out-q-2 : tie.Need-element-copy-out-q-2
-element-copy-out-q-2 c = search needs
-
-sub-s : tie.Need-sub-s
-sub-s c = search needs
-
-mul-s-5 : tie.Need-mul-s-5
-mul-s-5 c = search needs
+mul-s-3 : tie.Need-mul-s-3
+mul-s-3 c = count-at (c .before .before .pre)
 
 element-copy-out-s-3 : tie.Need-element-copy-out-s-3
-element-copy-out-s-3 c = search needs
+element-copy-out-s-3 c = output (c .before .before .pre) (c .if1 .taken)
 
-sub-s-2 : tie.Need-sub-s-2
-sub-s-2 c =
-    let k = c .before .before .before .before .before .before in
-    let z = c .before .before .before .if2 .taken in
-    let ne : k .args .i - 1 ≢ k .args .i = λ e. omega arith in
-    rw (mid (c .before .before .before .before), produced-other (k .args .t1) (k .args .i) (k .args .run .held) (k .args .i - 1) ne) (takes (k .args .i) (k .pre) z)
+add-s-2 : tie.Need-add-s-2
+add-s-2 c = puts (c .before .before .before .pre) (c .before .if1 .taken)
 
-sub-s-3 : tie.Need-sub-s-3
-sub-s-3 c = search needs
+element-write-s-2 : tie.Need-element-write-s-2
+element-write-s-2 c = output (c .before .before .before .pre) (c .before .if1 .taken)
 
-mul-s-6 : tie.Need-mul-s-6
-mul-s-6 c = search needs
+sub-j : tie.Need-sub-j
+sub-j c = c .if2 .taken
+
+mul-s-4 : tie.Need-mul-s-4
+mul-s-4 c = input-row-at (c .before .before .before .pre)
+
+element-copy-out-s-4 : tie.Need-element-copy-out-s-4
+element-copy-out-s-4 c = input (c .before .before .before .pre)
+
+mul-s-5 : tie.Need-mul-s-5
+mul-s-5 c = input-at (c .before .before .before .pre)
+
+element-copy-out-s-5 : tie.Need-element-copy-out-s-5
+element-copy-out-s-5 c = input (c .before .before .before .pre)
+
+sub-s : tie.Need-sub-s
+sub-s c = rw (mid (c .before .before)) (found (c .before .before .before .before .pre) (c .before .if2 .taken))
 
 element-write-s-3 : tie.Need-element-write-s-3
-element-write-s-3 c = search needs
+element-write-s-3 c = input (c .before .before .before .before .pre)
 
 returns : tie.Need-returns
-returns c =
-    let k = c .before .before .before .before .before .before in
-    let z = c .before .before .before .if2 .taken in
-    rw (mid (c .before .before .before .before)) (taken (k .args .t1) (k .args .run) (k .args .i) z)
+returns c = rw (mid (c .before .before)) (taken _ _ _ (c .before .if2 .taken))
 
 returns-2 : tie.Need-returns-2
-returns-2 c =
-    let k = c .before .before .before in
-    mid (c .before) ∙ none-taken (k .args .t1) (k .args .run) (k .args .i) (c .if2 .left)
+returns-2 c = mid (c .before) ∙ none-taken _ _ _ (c .if2 .left)
 
 pub effect-spec : {M : Type 1} → statement M
 effect-spec =
@@ -140,25 +146,20 @@ effect-spec =
     mul-s
     element-copy-out-s
     add-s
-    mul-s-2
     element-write-s
     cast-if1
-    mul-q
-    element-copy-out-q
-    mul-s-3
+    mul-s-2
     element-copy-out-s-2
-    add-s-2
-    mul-s-4
-    element-write-s-2
-    sub-q
-    mul-q-2
-    element-copy-out-q-2
-    sub-s
-    mul-s-5
+    mul-s-3
     element-copy-out-s-3
-    sub-s-2
-    sub-s-3
-    mul-s-6
+    add-s-2
+    element-write-s-2
+    sub-j
+    mul-s-4
+    element-copy-out-s-4
+    mul-s-5
+    element-copy-out-s-5
+    sub-s
     element-write-s-3
     returns
     returns-2)
