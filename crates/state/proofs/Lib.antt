@@ -1,2 +1,3 @@
+mod Slots
 mod Node
 mod Answers

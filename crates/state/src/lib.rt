@@ -116,11 +116,9 @@ pub fn state_check(chain: Chain, analysis: Analysis, run: Run) -> Refusal
     let n = chain.n as usize;
     let mut i = 0;
     while i < n {
-        let q = chain.queues[i];
-        let size = analysis.queues[i];
         if is_broken(
-            q,
-            size.capacity,
+            chain.queues[i],
+            analysis.queues[i].capacity,
             chain.work[i],
             run.counts[i],
             run.counts[i + 1],
@@ -181,8 +179,8 @@ fn is_waiting(chain: Chain, run: Run, i: usize) -> bool
     if i == 0 {
         return false;
     }
-    let q = chain.queues[i - 1];
-    run.held[i - 1] < q.threshold
+    let j = i - 1;
+    run.held[j] < chain.queues[j].threshold
 }
 
 // Whether a firing of node i would pass the capacity of its output queue.
@@ -193,9 +191,11 @@ fn is_cramped(chain: Chain, analysis: Analysis, run: Run, i: usize) -> bool
     if chain.n as usize <= i {
         return false;
     }
-    let q = chain.queues[i];
-    let size = analysis.queues[i];
-    passes(size.capacity, run.held[i], q.produce)
+    passes(
+        analysis.queues[i].capacity,
+        run.held[i],
+        chain.queues[i].produce,
+    )
 }
 
 // Whether a queue that holds so much passes its capacity with so much more.

@@ -1,12 +1,12 @@
 -- `state::effect` meets its contract: p goes into the output queue, then c leaves the input queue, and the count has grown.
 use mathlib.Core.Path.{_≡_, refl, _∙_}
 use mathlib.Core.Logic.{⊎-elim, _≢_}
-use Prim.Native.Nat.{ℕ, zero, suc, _+_, _-_, _*_, _≤_, _<_}
+use Prim.Native.Nat.{ℕ, zero, suc, _+_, _-_, _≤_, _<_}
 use native.Mathlib.Omega.{arith}
 use lib.ListN.{getD, set}
 use mathlib.Core.List.{List}
 use mir.Val.{Fits}
-use mir.Syntax.{w32, w64}
+use mir.Syntax.{w32}
 use borrow.Author.Tests.{lt-ltb, le-ltb}
 use Rattle.chain.specs.Record.{rowOf}
 use Rattle.chain.specs.declared.Chain.{Chain}
@@ -15,6 +15,7 @@ use Rattle.state.specs.State.{countAt, heldAt}
 use Rattle.state.specs.Fired.{produced, consumed, fired, produced-other, Firing}
 use Rattle.state.specs.declared.Run.{Run}
 use borrow.Author.Needs.{needs}
+use Rattle.state.proofs.Slots.{few, node, node-word, input, input-word, input-row, queue, word, row}
 use Rattle.state.proofs.effect.Statement.{statement}
 use Rattle.state.proofs.effect.Tie as tie
 
@@ -46,32 +47,8 @@ module _ (c : Chain) (s : Run) where
   none-taken zero l = refl
   none-taken (suc j) l = absurd (omega arith)
 
--- the slots of a firing of N_i: its count, its output queue and its input queue, and how far in they lie
 module _ {c : Chain} {s : Run} {i : ℕ} (k : Firing c s i) where
-  few : Fits w64 (c .n)
-  few = record { fits = omega (arith, k .chain .count .1) }
-
-  count : i < 17
-  count = omega (arith, k .may .node, k .chain .count .1)
-
-  count-at : Fits w64 (i * 4)
-  count-at = record { fits = omega (arith, count) }
-
-  row-at : Fits w64 (i * 20)
-  row-at = record { fits = omega (arith, count) }
-
-  output : i < c .n → i < 16
-  output l = omega (arith, k .chain .count .1)
-
-  input : i - 1 < 16
-  input = omega (arith, count)
-
-  input-at : Fits w64 ((i - 1) * 4)
-  input-at = record { fits = omega (arith, input) }
-
-  input-row-at : Fits w64 ((i - 1) * 20)
-  input-row-at = record { fits = omega (arith, input) }
-
+  -- the production fits
   puts : i < c .n → Fits w32 (heldAt s i + rowOf c i .produce)
   puts l = record { fits = omega (arith, k .may .room l, capacity-most (k .chain .rows i l)) }
 
@@ -80,58 +57,58 @@ module _ {c : Chain} {s : Run} {i : ℕ} (k : Firing c s i) where
   found l = let ne : i - 1 ≢ i = λ e. omega arith in rw (produced-other c i (s .held) (i - 1) ne) (takes i k l)
 
 mul-s : tie.Need-mul-s
-mul-s c = count-at (c .pre)
+mul-s c = node-word (c .pre .chain) _ (c .pre .may .node)
 
 element-copy-out-s : tie.Need-element-copy-out-s
-element-copy-out-s c = count (c .pre)
+element-copy-out-s c = node (c .pre .chain) _ (c .pre .may .node)
 
 add-s : tie.Need-add-s
 add-s c = let fits : Fits w32 (countAt (c .before .args .run) (c .before .args .i)) = search needs in record { fits = omega (arith, fits .fits, c .before .pre .may .countable) }
 
 element-write-s : tie.Need-element-write-s
-element-write-s c = count (c .before .pre)
+element-write-s c = node (c .before .pre .chain) _ (c .before .pre .may .node)
 
 cast-if1 : tie.Need-cast-if1
-cast-if1 c = few (c .before .pre)
+cast-if1 c = few (c .before .pre .chain)
 
 mul-s-2 : tie.Need-mul-s-2
-mul-s-2 c = row-at (c .before .before .pre)
+mul-s-2 c = row (c .before .before .pre .chain) _ (c .if1 .taken)
 
 element-copy-out-s-2 : tie.Need-element-copy-out-s-2
-element-copy-out-s-2 c = output (c .before .before .pre) (c .if1 .taken)
+element-copy-out-s-2 c = queue (c .before .before .pre .chain) _ (c .if1 .taken)
 
 mul-s-3 : tie.Need-mul-s-3
-mul-s-3 c = count-at (c .before .before .pre)
+mul-s-3 c = word (c .before .before .pre .chain) _ (c .if1 .taken)
 
 element-copy-out-s-3 : tie.Need-element-copy-out-s-3
-element-copy-out-s-3 c = output (c .before .before .pre) (c .if1 .taken)
+element-copy-out-s-3 c = queue (c .before .before .pre .chain) _ (c .if1 .taken)
 
 add-s-2 : tie.Need-add-s-2
 add-s-2 c = puts (c .before .before .before .pre) (c .before .if1 .taken)
 
 element-write-s-2 : tie.Need-element-write-s-2
-element-write-s-2 c = output (c .before .before .before .pre) (c .before .if1 .taken)
+element-write-s-2 c = queue (c .before .before .before .pre .chain) _ (c .before .if1 .taken)
 
 sub-j : tie.Need-sub-j
 sub-j c = c .if2 .taken
 
 mul-s-4 : tie.Need-mul-s-4
-mul-s-4 c = input-row-at (c .before .before .before .pre)
+mul-s-4 c = input-row (c .before .before .before .pre .chain) _ (c .before .before .before .pre .may .node)
 
 element-copy-out-s-4 : tie.Need-element-copy-out-s-4
-element-copy-out-s-4 c = input (c .before .before .before .pre)
+element-copy-out-s-4 c = input (c .before .before .before .pre .chain) _ (c .before .before .before .pre .may .node)
 
 mul-s-5 : tie.Need-mul-s-5
-mul-s-5 c = input-at (c .before .before .before .pre)
+mul-s-5 c = input-word (c .before .before .before .pre .chain) _ (c .before .before .before .pre .may .node)
 
 element-copy-out-s-5 : tie.Need-element-copy-out-s-5
-element-copy-out-s-5 c = input (c .before .before .before .pre)
+element-copy-out-s-5 c = input (c .before .before .before .pre .chain) _ (c .before .before .before .pre .may .node)
 
 sub-s : tie.Need-sub-s
 sub-s c = rw (mid (c .before .before)) (found (c .before .before .before .before .pre) (c .before .if2 .taken))
 
 element-write-s-3 : tie.Need-element-write-s-3
-element-write-s-3 c = input (c .before .before .before .before .pre)
+element-write-s-3 c = input (c .before .before .before .before .pre .chain) _ (c .before .before .before .before .pre .may .node)
 
 returns : tie.Need-returns
 returns c = rw (mid (c .before .before)) (taken _ _ _ (c .before .if2 .taken))

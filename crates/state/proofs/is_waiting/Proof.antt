@@ -11,6 +11,7 @@ use Rattle.chain.specs.declared.Chain.{Chain}
 use Rattle.state.specs.State.{heldAt}
 use Rattle.state.specs.Checks.{over}
 use Rattle.state.specs.declared.Run.{Run}
+use Rattle.state.proofs.Slots.{input, input-word, input-row}
 use Rattle.state.proofs.is_waiting.Statement.{statement}
 use Rattle.state.proofs.is_waiting.Tie as tie
 
@@ -29,36 +30,32 @@ waits c s (suc j) n = let e : suc j - 1 ≡ j = omega arith in rw e (opposite (h
 returns : tie.Need-returns
 returns c = search needs
 
-sub-q : tie.Need-sub-q
-sub-q c = search needs
-
-mul-q : tie.Need-mul-q
-mul-q c = search needs
-
-element-copy-out-q : tie.Need-element-copy-out-q
-element-copy-out-q c = search needs
-
-sub-result : tie.Need-sub-result
-sub-result c = search needs
+sub-j : tie.Need-sub-j
+sub-j c = search needs
 
 mul-result : tie.Need-mul-result
-mul-result c = search needs
+mul-result c = input-word (c .before .pre .chain) _ (c .before .pre .node)
 
 element-copy-out-result : tie.Need-element-copy-out-result
-element-copy-out-result c = search needs
+element-copy-out-result c = input (c .before .pre .chain) _ (c .before .pre .node)
+
+mul-result-2 : tie.Need-mul-result-2
+mul-result-2 c = input-row (c .before .before .pre .chain) _ (c .before .before .pre .node)
+
+element-copy-out-result-2 : tie.Need-element-copy-out-result-2
+element-copy-out-result-2 c = input (c .before .before .pre .chain) _ (c .before .before .pre .node)
 
 returns-2 : tie.Need-returns-2
-returns-2 c = waits _ _ _ (c .before .before .before .if1 .left)
+returns-2 c = waits _ _ _ (c .before .if1 .left)
 
 pub is-waiting-spec : {M : Type 1} → statement M
 is-waiting-spec =
     tie.close
     (tie.spec
     returns
-    sub-q
-    mul-q
-    element-copy-out-q
-    sub-result
+    sub-j
     mul-result
     element-copy-out-result
+    mul-result-2
+    element-copy-out-result-2
     returns-2)

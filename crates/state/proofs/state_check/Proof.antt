@@ -6,7 +6,6 @@ use Prim.Native.Nat.{ℕ, suc, _+_, _-_, _≤_, _<_}
 use native.Mathlib.Nat.{eq-or-lt-of-le}
 use native.Mathlib.Omega.{arith}
 use native.Mathlib.Numerals.{add-one}
-use borrow.Author.Needs.{needs}
 use Rattle.words.specs.Table.{tab}
 use Rattle.chain.specs.Refusals.{refused, Silent, first-fine, lowest-is, all-silent, test-exact, test-silent}
 use Rattle.chain.specs.Record.{rowOf, workOf}
@@ -14,6 +13,7 @@ use Rattle.chain.specs.declared.Chain.{Chain}
 use Rattle.state.specs.State.{countAt, heldAt, doneAt}
 use Rattle.state.specs.Checks.{broken, stateTest, stateCheck, ruled}
 use Rattle.state.specs.declared.Run.{Run}
+use Rattle.state.proofs.Slots.{few, queue, queue-number, word, row, sizes, producer, next, consumer, consumer-word}
 use Rattle.state.proofs.state_check.Statement.{statement}
 use Rattle.state.proofs.state_check.Tie as tie
 
@@ -37,6 +37,20 @@ module _ (c : Chain) (s : Run) (i : ℕ) where
     steady-here : b ≡ false → Silent (stateTest c s i)
     steady-here t = test-silent 17 i (λ z. omega arith) (brokenAt (suc i)) .1 (sym same ∙ t)
 
+    -- a queue that is not broken is passed
+    more : b ≡ false → Passed c s i → i < c .n → Passed c s (i + 1)
+    more t p l = record {
+      within = omega arith;
+      silent = λ j h. ⊎-elim (λ e. rw e (steady-here t)) (λ m. p .silent j m) (eq-or-lt-of-le {n = j} {m = i} (omega arith));
+    }
+
+none : (c : Chain) (s : Run) → Passed c s 0
+none c s = record { within = omega arith; silent = λ j l. absurd (omega arith) }
+
+-- what is left to look at
+less : (n i : ℕ) → i < n → n - (i + 1) < n - i
+less n i l = omega arith
+
 abbrev Inv-loop : tie.InvT-loop
 Inv-loop chain analysis run n i₀ i = Passed chain run i
 
@@ -44,92 +58,85 @@ abbrev μ-loop : tie.MeasureT-loop
 μ-loop chain analysis run n i₀ i = n - i
 
 cast-n : tie.Need-cast-n Inv-loop μ-loop
-cast-n c = search needs
+cast-n c = few (c .pre .chain)
 
 loop-holds : tie.Need-loop-holds Inv-loop μ-loop
-loop-holds c = record { within = omega arith; silent = λ j l. absurd (omega arith) }
-
-mul-q : tie.Need-mul-q Inv-loop μ-loop
-mul-q c = search needs
-
-element-copy-out-q : tie.Need-element-copy-out-q Inv-loop μ-loop
-element-copy-out-q c = search needs
-
-mul-size : tie.Need-mul-size Inv-loop μ-loop
-mul-size c = search needs
-
-element-copy-out-size : tie.Need-element-copy-out-size Inv-loop μ-loop
-element-copy-out-size c = search needs
+loop-holds c = none _ _
 
 mul-is-broken : tie.Need-mul-is-broken Inv-loop μ-loop
-mul-is-broken c = search needs
+mul-is-broken c = row (c .before .before .pre .chain) _ (c .loop-test .taken)
 
 element-copy-out-is-broken : tie.Need-element-copy-out-is-broken Inv-loop μ-loop
-element-copy-out-is-broken c = search needs
+element-copy-out-is-broken c = queue (c .before .before .pre .chain) _ (c .loop-test .taken)
 
 mul-is-broken-2 : tie.Need-mul-is-broken-2 Inv-loop μ-loop
-mul-is-broken-2 c = search needs
+mul-is-broken-2 c = sizes (c .before .before .before .pre .chain) _ (c .before .loop-test .taken)
 
 element-copy-out-is-broken-2 : tie.Need-element-copy-out-is-broken-2 Inv-loop μ-loop
-element-copy-out-is-broken-2 c = search needs
-
-add-is-broken : tie.Need-add-is-broken Inv-loop μ-loop
-add-is-broken c = search needs
+element-copy-out-is-broken-2 c = queue (c .before .before .before .pre .chain) _ (c .before .loop-test .taken)
 
 mul-is-broken-3 : tie.Need-mul-is-broken-3 Inv-loop μ-loop
-mul-is-broken-3 c = search needs
+mul-is-broken-3 c = word (c .before .before .before .pre .chain) _ (c .before .loop-test .taken)
 
 element-copy-out-is-broken-3 : tie.Need-element-copy-out-is-broken-3 Inv-loop μ-loop
-element-copy-out-is-broken-3 c = search needs
+element-copy-out-is-broken-3 c = queue (c .before .before .before .pre .chain) _ (c .before .loop-test .taken)
 
 mul-is-broken-4 : tie.Need-mul-is-broken-4 Inv-loop μ-loop
-mul-is-broken-4 c = search needs
+mul-is-broken-4 c = word (c .before .before .before .before .pre .chain) _ (c .before .before .loop-test .taken)
 
 element-copy-out-is-broken-4 : tie.Need-element-copy-out-is-broken-4 Inv-loop μ-loop
-element-copy-out-is-broken-4 c = search needs
+element-copy-out-is-broken-4 c = producer (c .before .before .before .before .pre .chain) _ (c .before .before .loop-test .taken)
+
+add-is-broken : tie.Need-add-is-broken Inv-loop μ-loop
+add-is-broken c = next (c .before .before .before .before .before .pre .chain) _ (c .before .before .before .loop-test .taken)
 
 mul-is-broken-5 : tie.Need-mul-is-broken-5 Inv-loop μ-loop
-mul-is-broken-5 c = search needs
+mul-is-broken-5 c = consumer-word (c .before .before .before .before .before .pre .chain) _ (c .before .before .before .loop-test .taken)
 
 element-copy-out-is-broken-5 : tie.Need-element-copy-out-is-broken-5 Inv-loop μ-loop
-element-copy-out-is-broken-5 c = search needs
+element-copy-out-is-broken-5 c = consumer (c .before .before .before .before .before .pre .chain) _ (c .before .before .before .loop-test .taken)
+
+mul-is-broken-6 : tie.Need-mul-is-broken-6 Inv-loop μ-loop
+mul-is-broken-6 c = word (c .before .before .before .before .before .before .pre .chain) _ (c .before .before .before .before .loop-test .taken)
+
+element-copy-out-is-broken-6 : tie.Need-element-copy-out-is-broken-6 Inv-loop μ-loop
+element-copy-out-is-broken-6 c = queue (c .before .before .before .before .before .before .pre .chain) _ (c .before .before .before .before .loop-test .taken)
+
+mul-is-broken-7 : tie.Need-mul-is-broken-7 Inv-loop μ-loop
+mul-is-broken-7 c = word (c .before .before .before .before .before .before .before .pre .chain) _ (c .before .before .before .before .before .loop-test .taken)
+
+element-copy-out-is-broken-7 : tie.Need-element-copy-out-is-broken-7 Inv-loop μ-loop
+element-copy-out-is-broken-7 c = queue (c .before .before .before .before .before .before .before .pre .chain) _ (c .before .before .before .before .before .loop-test .taken)
 
 is-broken-requires : tie.Need-is-broken-requires Inv-loop μ-loop
-is-broken-requires c κs = ruled (c .before .before .before .before .before .before .before .before .before .pre) _ (omega (arith, c .before .before .before .before .before .before .before .loop-test .taken))
+is-broken-requires c κs = ruled (c .before .before .before .before .before .before .before .before .pre) _ (c .before .before .before .before .before .before .loop-test .taken)
 
 cast-refusal : tie.Need-cast-refusal Inv-loop μ-loop
-cast-refusal c = search needs
+cast-refusal c = queue-number (c .before .before .before .before .before .before .before .before .before .before .pre .chain) _ (c .before .before .before .before .before .before .before .before .loop-test .taken)
 
 refusal-requires : tie.Need-refusal-requires Inv-loop μ-loop
-refusal-requires c κs = search needs
+refusal-requires c κs = tt
 
 returns : tie.Need-returns Inv-loop μ-loop
 unfolding stateCheck
 returns c =
-    let l = c .before .before .before .before .before .before .before .before .before .before .before in
+    let l = c .before .before .before .before .before .before .before .before .before .before in
     let s = l .before .args in
     c .refusal .ensures ∙ sym (lowest-is 17 (l .loop .i) (λ e. omega arith) (stateTest (s .t1) (s .t3)) (s .t1 .n) .1 (record {
       at = l .loop .i;
-      inside = c .before .before .before .before .before .before .before .before .before .before .loop-test .taken;
+      inside = c .before .before .before .before .before .before .before .before .before .loop-test .taken;
       says = broken-here (s .t1) (s .t3) (l .loop .i) (c .before .before .is-broken .ensures) (c .before .if1 .taken);
       before = l .loop .inv .silent;
     }))
 
 add-i : tie.Need-add-i Inv-loop μ-loop
-add-i c = search needs
+add-i c = next (c .before .before .before .before .before .before .before .before .before .before .pre .chain) _ (c .before .before .before .before .before .before .before .before .loop-test .taken)
 
 loop-less : tie.Need-loop-less Inv-loop μ-loop
-loop-less c = search needs
+loop-less c = less _ _ (c .before .before .before .before .before .before .before .before .loop-test .taken)
 
 loop-again : tie.Need-loop-again Inv-loop μ-loop
-loop-again c =
-    let l = c .before .before .before .before .before .before .before .before .before .before in
-    let s = l .before .args in
-    let here : Silent (stateTest (s .t1) (s .t3) (l .loop .i)) = steady-here (s .t1) (s .t3) (l .loop .i) (c .before .is-broken .ensures) (c .if1 .left) in
-    record {
-      within = omega (arith, c .before .before .before .before .before .before .before .before .before .loop-test .taken);
-      silent = λ j h. ⊎-elim (λ e. rw e here) (λ m. l .loop .inv .silent j m) (eq-or-lt-of-le {n = j} {m = l .loop .i} (omega arith));
-    }
+loop-again c = more _ _ _ (c .before .is-broken .ensures) (c .if1 .left) (c .before .before .before .before .before .before .before .before .before .loop .inv) (c .before .before .before .before .before .before .before .before .loop-test .taken)
 
 returns-2 : tie.Need-returns-2 Inv-loop μ-loop
 unfolding stateCheck
@@ -147,21 +154,21 @@ state-check-spec =
     μ-loop
     cast-n
     loop-holds
-    mul-q
-    element-copy-out-q
-    mul-size
-    element-copy-out-size
     mul-is-broken
     element-copy-out-is-broken
     mul-is-broken-2
     element-copy-out-is-broken-2
-    add-is-broken
     mul-is-broken-3
     element-copy-out-is-broken-3
     mul-is-broken-4
     element-copy-out-is-broken-4
+    add-is-broken
     mul-is-broken-5
     element-copy-out-is-broken-5
+    mul-is-broken-6
+    element-copy-out-is-broken-6
+    mul-is-broken-7
+    element-copy-out-is-broken-7
     is-broken-requires
     cast-refusal
     refusal-requires
