@@ -62,30 +62,6 @@ module _ (c : Chain) (s : Run) (i : ℕ) where
   unfolding fireRefusal analyseRefusal first
   fire-parts = first-append (analyseChecks c) (stateCheck c s ∷ nodeChecks c s i)
 
-  -- a firing is not refused exactly when the chain is accepted, the state passes 17, and the firing is one that may be
-  pub fire-accepts : Silent (fireRefusal c s i) ↔ (Accepted c × (StateSound c s × May c s i))
-  unfolding Silents
-  fire-accepts =
-      Iff·trans (silent-as fire-parts, silent-as (sym fire-parts))
-      (Iff·trans (or-silents _ _) (Iff·and (analyse-accepts c) (Iff·trans (or-silents _ _) (Iff·and (state-silent c s) (Iff·trans (first-silent (nodeChecks c s i)) (out, back))))))
-    where
-      out : Silents (nodeChecks c s i) → May c s i
-      out h =
-          let o = over-silent c s i .0 (h .1 .0) in
-          record { node = o .0; countable = own.count-silent c s i (o .0) .0 (h .0); over = o .1; room = room-silent c s i .0 (h .1 .1 .0) }
-
-      back : May c s i → Silents (nodeChecks c s i)
-      back m = (own.count-silent c s i (m .node) .1 (m .countable), (over-silent c s i .1 (m .node, m .over), (room-silent c s i .1 (m .room), tt)))
-
-  -- what a firing gives back: the state after it, or the state as it was
-  pub fire-accepted : Silent (fireRefusal c s i) → fireAnswer c s i .run ≡ fired c s i
-  unfolding fireAnswer answered
-  fire-accepted z = simp (eq-eqb _ _ z)
-
-  pub fire-refused : (Silent (fireRefusal c s i) → ⊥) → fireAnswer c s i .run ≡ s
-  unfolding fireAnswer answered
-  fire-refused n = simp (ne-eqb _ _ n)
-
 -- a firing is refused with a number exactly when no earlier check speaks and the number's own condition holds
 module _ (c : Chain) (s : Run) (i L : ℕ) where
   order : List ℕ
@@ -131,3 +107,28 @@ module _ (c : Chain) (s : Run) (i L : ℕ) where
           let node = skip 17 (stateCheck c s) _ (state-only c s) (omega arith) (h .1) in
           let none = skip 12 (roomCheck c s i) fine (room-only c s i) (omega arith) (skip 11 (overCheck c s i) _ (over-only c s i) (omega arith) (skip 9 (countCheck c s i) _ (own.count-only c s i) (omega arith) node)) in
           absurd (some (sym (number-of none)))
+
+module _ (c : Chain) (s : Run) (i : ℕ) where
+  -- a firing is not refused exactly when the chain is accepted, the state passes 17, and the firing is one that may be
+  pub fire-accepts : Silent (fireRefusal c s i) ↔ (Accepted c × (StateSound c s × May c s i))
+  unfolding Silents
+  fire-accepts =
+      Iff·trans (silent-as (fire-parts c s i), silent-as (sym (fire-parts c s i)))
+      (Iff·trans (or-silents _ _) (Iff·and (analyse-accepts c) (Iff·trans (or-silents _ _) (Iff·and (state-silent c s) (Iff·trans (first-silent (nodeChecks c s i)) (out, back))))))
+    where
+      out : Silents (nodeChecks c s i) → May c s i
+      out h =
+          let o = over-silent c s i .0 (h .1 .0) in
+          record { node = o .0; countable = own.count-silent c s i (o .0) .0 (h .0); over = o .1; room = room-silent c s i .0 (h .1 .1 .0) }
+
+      back : May c s i → Silents (nodeChecks c s i)
+      back m = (own.count-silent c s i (m .node) .1 (m .countable), (over-silent c s i .1 (m .node, m .over), (room-silent c s i .1 (m .room), tt)))
+
+  -- what a firing gives back: the state after it, or the state as it was
+  pub fire-accepted : Silent (fireRefusal c s i) → fireAnswer c s i .run ≡ fired c s i
+  unfolding fireAnswer answered
+  fire-accepted z = simp (eq-eqb _ _ z)
+
+  pub fire-refused : (Silent (fireRefusal c s i) → ⊥) → fireAnswer c s i .run ≡ s
+  unfolding fireAnswer answered
+  fire-refused n = simp (ne-eqb _ _ n)

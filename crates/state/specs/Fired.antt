@@ -5,10 +5,10 @@
 --   Over c s i               N_i may fire: it is the source, or its input queue holds at least τ
 --   Room c s i               its output queue, if any, has room for p
 --   May c s i                manual firing accepts it: there is such a node, its count can grow, it may fire and there is room
---   counts-, holds-length    a firing keeps the number of slots
 --   count-fired, -other      N_i has fired once more, and no other node
 --   held-output, -input, -other, -sink
 --                            its output queue has p more and its input queue c less, said with no minus; every other queue is as it was
+--   counts-, holds-length    a firing keeps the number of slots
 --   balance-kept             so each queue's balance is kept
 use mathlib.Core.Path.{_≡_, refl, sym, ap, _∙_}
 use mathlib.Core.Bool.{Bool, true, false, cond}
@@ -88,14 +88,6 @@ consumed-other c zero h k ne = refl
 consumed-other c (suc j) h k ne = getD-set-other h j k _ 0 (λ e. ne (ap suc e))
 
 module _ (c : Chain) (s : Run) where
-  pub counts-length : (i : ℕ) → length (fired c s i .counts) ≡ length (s .counts)
-  unfolding fired
-  counts-length i = length-set (s .counts) i _
-
-  pub holds-length : (i : ℕ) → length (fired c s i .held) ≡ length (s .held)
-  unfolding fired
-  holds-length i = length-consumed c i _ ∙ length-produced c i (s .held)
-
   pub count-fired : (i : ℕ) → i < length (s .counts) → countAt (fired c s i) i ≡ countAt s i + 1
   unfolding fired
   count-fired i l = getD-set-same (s .counts) i _ 0 l
@@ -123,6 +115,14 @@ module _ (c : Chain) (s : Run) where
   pub held-sink : (i j : ℕ) → c .n ≤ j → suc j ≢ i → heldAt (fired c s i) j ≡ heldAt s j
   unfolding fired produced
   held-sink i j l ne = consumed-other c i (produced c i (s .held)) j ne ∙ by-cases (ℕ-discrete j i) (λ e. simp (le-ltb i (c .n) (omega arith))) (λ n. produced-other c i (s .held) j n)
+
+  pub counts-length : (i : ℕ) → length (fired c s i .counts) ≡ length (s .counts)
+  unfolding fired
+  counts-length i = length-set (s .counts) i _
+
+  pub holds-length : (i : ℕ) → length (fired c s i .held) ≡ length (s .held)
+  unfolding fired
+  holds-length i = length-consumed c i _ ∙ length-produced c i (s .held)
 
 -- the balance of queue j: "p × producer's count" of what it started with is what is held and "c × consumer's count"
 abbrev pub Balance : Chain → Run → ℕ → Type 0
