@@ -18,12 +18,12 @@ use native.Mathlib.Omega.{arith}
 use lib.ListN.{getD}
 use Rattle.chain.specs.Record.{rowOf}
 use Rattle.chain.specs.declared.Chain.{Chain}
-use Rattle.state.specs.State.{countAt, heldAt, freshRun}
+use Rattle.state.specs.State.{countAt, heldAt, freshRun, fresh-count}
 use Rattle.state.specs.Fired.{fired}
 use Rattle.state.specs.declared.Run.{Run}
 use Rattle.history.specs.History.{after}
 use Rattle.schedule.specs.Counts.{F}
-use Rattle.schedule.specs.Reached.{Reached, Calm, reached-fresh, fresh-calm, fresh-count, one-state}
+use Rattle.schedule.specs.Reached.{Reached, Calm, reached-fresh, fresh-calm, one-state}
 use Rattle.schedule.specs.Schedule.{schedule, ends, reached, counts-are-F}
 use Rattle.flow.specs.Flow.{firing, Shows, Ready, shows-fired}
 use Rattle.flow.specs.Shown.{shown, shown-is}

@@ -1,4 +1,5 @@
 pub mod Checks
+pub mod Figures
 pub mod Long
 pub mod Steps
 pub mod Lent
