@@ -16,13 +16,13 @@
 --   peak                     "when nodes fire at once .. no queue passes that minimum"
 --   run-fires, run-rule, run-at-once, run-peak
 --                            the immediate run is such an order: manual firing accepts it, it is by the rule, and no queue passes its minimum
---   capacities               where it is not refused no capacity is below the reported minimum
---   counts, at-rest          its counts are the exact ones, F, and clock and work done are 0
+--   runs-is                  it is refused exactly where the chain is, a capacity is below the reported minimum, or a count passes the limit
+--   counts, source, at-rest  its counts are the exact ones, F, the source's is k, and clock and work done are 0
 --   any-order                every permitted order that leaves only the source to fire ends in its state
---   rate, rate-exact         "a node that has fired keeps exactly its x firings per y ticks", y being whole periods of the source
---   reached                  a producer that has fired the naming count in it has filled its queue to exactly the minimum
+--   rates, rate, rate-exact  "a node that has fired keeps exactly its x firings per y ticks": m cycles, one, and that y is whole periods of the source
+--   filled, reached          where nodes fire at once, a producer that has fired the naming count has filled its queue to exactly the minimum
 use mathlib.Core.Path.{_≡_, refl, sym, ap, subst, _∙_}
-use mathlib.Core.Logic.{_⊎_}
+use mathlib.Core.Logic.{_↔_, _⊎_}
 use mathlib.Core.List.{List, [], _∷_, _++_}
 use Prim.Native.Nat.{ℕ, suc, _+_, _*_, _/_, _≤_, _<_, _∣_}
 use native.Mathlib.Nat.{le-refl}
@@ -150,6 +150,21 @@ module _ (c : Chain) (h : List ℕ) (ok : Fires c h) where
       let m : HasHeld c h j (heldAt (after c (freshRun c) g) j) = record { before = g; later = k; parts = e; holds = le-refl _ } in
       rw (moment g k e, minimum-is c accepted j l) (histories.peak c accepted h permits (prompts low) j l _ m)
 
+  -- so a producer that has fired the naming count has filled its queue to exactly the minimum
+  pub filled : AtOnce c h → (j : ℕ) → j < c .n → line c j .by ≤ times j h → Sometime c h (λ s. heldAt s j ≡ line c j .minimum)
+  filled low j l often =
+      let m : HeldExactly c h j (minimumOf (rowOf c j)) = histories.reached c accepted h permits (prompts low) j l (rw (by-is c accepted j l) at often) in
+      record { before = m .before; later = m .later; parts = m .parts; holds = rw (moment (m .before) (m .later) (m .parts), minimum-is c accepted j l) (m .holds) }
+
+-- "no capacity is below the reported minimum", and "both runs within the limit"
+pub runs-is : (c : Chain) (k : ℕ)
+    → Runs c k ↔ ((Accepts c × ((j : ℕ) → j < c .n → (rowOf c j .capacity ≡ 0) ⊎ (line c j .minimum ≤ rowOf c j .capacity))) × ((i : ℕ) → i ≤ c .n → F c k i ≤ most))
+unfolding immediateAnswer answered
+runs-is c k = (
+  λ ran. let p = immediate-accepts c k .0 ran in ((accepts-is c .1 (p .0 .0), λ j l. rw (minimum-is c (p .0 .0) j l) (p .0 .1 j l)), p .1),
+  λ p. let a : Accepted c = accepts-is c .0 (p .0 .0) in immediate-accepts c k .1 ((a, λ j l. rw (minimum-is c a j l) at (p .0 .1 j l)), p .1),
+)
+
 -- the immediate run of k source firings
 module _ (c : Chain) (k : ℕ) (ran : Runs c k) where
   silent : immediateRefusal c k .number ≡ 0
@@ -184,13 +199,13 @@ module _ (c : Chain) (k : ℕ) (ran : Runs c k) where
   pub run-peak : (j : ℕ) → j < c .n → Always c (schedule c k) (λ s. heldAt s j ≤ line c j .minimum)
   run-peak = peak c (schedule c k) run-fires run-at-once
 
-  -- a capacity that is written is not below it
-  pub capacities : (j : ℕ) → j < c .n → (rowOf c j .capacity ≡ 0) ⊎ (line c j .minimum ≤ rowOf c j .capacity)
-  capacities j l = rw (minimum-is c (parts .0 .0) j l) (parts .0 .1 j l)
-
   -- "exact counts"
   pub counts : (i : ℕ) → i ≤ c .n → countAt (immediateAnswer c k .run) i ≡ F c k i
   counts i l = rw ends-in (counts-are-F sound k i l)
+
+  pub source : countAt (immediateAnswer c k .run) 0 ≡ k
+  unfolding F
+  source = counts 0 (omega arith)
 
   -- "clock and work done stay 0"
   pub at-rest : (immediateAnswer c k .run .clock ≡ 0) × (immediateAnswer c k .run .done ≡ replicate 16 0)
@@ -207,20 +222,19 @@ module _ (c : Chain) (k : ℕ) (ran : Runs c k) where
 
   -- where a producer has fired its queue's naming count, the queue has held exactly the minimum
   pub reached : (j : ℕ) → j < c .n → line c j .by ≤ countAt (immediateAnswer c k .run) j → Sometime c (schedule c k) (λ s. heldAt s j ≡ line c j .minimum)
-  reached j l often =
-      let a : Accepted c = parts .0 .0 in
-      let fires : line c j .by ≤ times j (schedule c k) = omega (arith, ap (λ (s : Run). countAt s j) run-state, counted c (schedule c k) run-fires j (omega arith)) in
-      let m : HeldExactly c (schedule c k) j (minimumOf (rowOf c j)) =
-      histories.reached c a (schedule c k) (permits c (schedule c k) run-fires) (prompts c (schedule c k) run-fires run-at-once) j l (rw (by-is c a j l) at fires) in
-      record {
-        before = m .before;
-        later = m .later;
-        parts = m .parts;
-        holds = rw (moment c (schedule c k) run-fires (m .before) (m .later) (m .parts), minimum-is c a j l) (m .holds);
-      }
+  reached j l often = filled c (schedule c k) run-fires run-at-once j l (omega (arith, ap (λ (s : Run). countAt s j) run-state, counted c (schedule c k) run-fires j (omega arith)))
 
 module _ (c : Chain) (j : ℕ) (l : j < c .n) where
-  -- "a node that has fired keeps exactly its x firings per y ticks": y ticks are y/period firings of the source
+  -- "a node that has fired keeps exactly its x firings per y ticks", of m times y ticks: y ticks are y/period firings of the source
+  pub rates : (k m : ℕ) → Runs c k → Runs c (k + m * (line c j .y / c .period)) → 0 < countAt (immediateAnswer c k .run) (suc j)
+      → countAt (immediateAnswer c (k + m * (line c j .y / c .period)) .run) (suc j) ≡ countAt (immediateAnswer c k .run) (suc j) + m * line c j .x
+  rates k m ran more has =
+      let a : Accepted c = parts c k ran .0 .0 in
+      let was : countAt (immediateAnswer c k .run) (suc j) ≡ F c k (suc j) = counts c k ran (suc j) l in
+      counts c _ more (suc j) l
+      ∙ rw (was, x-is c a j l, y-is c a j l) (immediate.rates c (a .chain) (suc j) l k m (rw was at has))
+
+  -- and of y ticks
   pub rate : (k : ℕ) → Runs c k → Runs c (k + line c j .y / c .period) → 0 < countAt (immediateAnswer c k .run) (suc j)
       → countAt (immediateAnswer c (k + line c j .y / c .period) .run) (suc j) ≡ countAt (immediateAnswer c k .run) (suc j) + line c j .x
   rate k ran more has =
