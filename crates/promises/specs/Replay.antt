@@ -4,7 +4,8 @@
 --   replayAnswer c h         fresh, then fire for each node of h in turn
 --   Accepts c                the analysis does not refuse c: 01's accepted chain; accepts-is: which is Accepted
 --   Fires c h                a permitted order: fresh and each fire accepts
---   stopped                  after a refusal nothing is fired
+--   stopped, goes-on         after a refusal nothing is fired, and without one the next node is
+--   Went c r h               what firings that end with no refusal were
 --   fires-is                 h is such an order exactly when the chain is accepted and manual firing permits h
 --   fires-state              and then the state is the one after h
 --   fires-before             what it begins with is one, too
@@ -16,9 +17,8 @@ use Prim.Native.Nat.{ℕ}
 use native.Mathlib.Decide.{ℕ-discrete}
 use lib.Dec.{eqb}
 use borrow.Author.Tests.{eq-eqb, ne-eqb}
-use Rattle.ardenquill.specs.Chains.{Silent}
-use Rattle.ardenquill.specs.Analyses.{analyseRefusal, analyseAnswer, Accepted, analyse-accepts, analysed}
-use Rattle.ardenquill.specs.Runs.{freshRun, fresh-empty, answered, freshAnswer, fired, fireRefusal, fireAnswer, fire-accepted}
+use Rattle.ardenquill.specs.Analyses.{analyseAnswer, Accepted, analyse-accepts}
+use Rattle.ardenquill.specs.Runs.{freshRun, answered, freshAnswer, fired, fireAnswer, fire-accepted}
 use Rattle.ardenquill.specs.Histories.{after, Permitted, permitted-before}
 use Rattle.chain.specs.declared.Chain.{Chain}
 use Rattle.state.specs.declared.Run.{Run}
@@ -86,21 +86,21 @@ module _ (c : Chain) where
       ap (λ (a : RunAnswer). a .number) (goes-on r i h z)
       ∙ goes (fireAnswer c (r .run) i) h (ok .0) (subst (λ (s : Run). Permitted c s h) (sym (fire-accepted c (r .run) i (ok .0))) (ok .1))
 
-  -- a fresh start is the same whether or not it is refused
-  fresh-state : freshAnswer c .run ≡ freshRun c
+  -- a fresh start that is not refused
+  fresh-state : freshAnswer c .number ≡ 0 → freshAnswer c .run ≡ freshRun c
   unfolding freshAnswer answered
-  fresh-state = by-cases (ℕ-discrete (analyseRefusal c .number) 0) (λ z. simp (eq-eqb _ _ z)) (λ n. simp (ne-eqb _ _ n) (fresh-empty c))
+  fresh-state z = simp (eq-eqb _ _ z)
 
   pub fires-is : (h : List ℕ) → Fires c h ↔ (Accepted c × Permitted c (freshRun c) h)
   unfolding replayAnswer freshAnswer answered
   fires-is h = (
-    λ z. let w : Went (freshAnswer c) h = went (freshAnswer c) h z in (analyse-accepts c .0 (w .began), subst (λ (s : Run). Permitted c s h) fresh-state (w .permitted)),
-    λ a. goes (freshAnswer c) h (analyse-accepts c .1 (a .0)) (subst (λ (s : Run). Permitted c s h) (sym fresh-state) (a .1)),
+    λ z. let w : Went (freshAnswer c) h = went (freshAnswer c) h z in (analyse-accepts c .0 (w .began), subst (λ (s : Run). Permitted c s h) (fresh-state (w .began)) (w .permitted)),
+    λ a. let z = analyse-accepts c .1 (a .0) in goes (freshAnswer c) h z (subst (λ (s : Run). Permitted c s h) (sym (fresh-state z)) (a .1)),
   )
 
   pub fires-state : (h : List ℕ) → Fires c h → replayAnswer c h .run ≡ after c (freshRun c) h
   unfolding replayAnswer
-  fires-state h z = went (freshAnswer c) h z .state ∙ ap (λ (s : Run). after c s h) fresh-state
+  fires-state h z = let w : Went (freshAnswer c) h = went (freshAnswer c) h z in w .state ∙ ap (λ (s : Run). after c s h) (fresh-state (w .began))
 
   pub fires-before : (g h : List ℕ) → Fires c (g ++ h) → Fires c g
   fires-before g h z = let a = fires-is (g ++ h) .0 z in fires-is g .1 (a .0, permitted-before c (freshRun c) g h (a .1))
