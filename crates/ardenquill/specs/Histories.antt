@@ -8,4 +8,4 @@ unfoldable pub use Rattle.history.specs.History.{times, after, Permitted, Promp
 pub use Rattle.history.specs.History.{HasHeld, after-append, permitted-append, permitted-before, permitted-may, prompt-append, prompt-before}
 unfoldable pub use Rattle.history.specs.Queues.{seen, events}
 pub use Rattle.history.specs.Queues.{seen-cases, times-again, times-other, events-append, puts-times, takes-times, held-contents, queue-allowed, queue-settled}
-pub use Rattle.history.specs.Laws.{HeldExactly, fresh-slots, fresh-held, fresh-count, fresh-contents, fresh-allowed, fresh-settled, counted, balance, naming, peak-end, peak, reached}
+pub use Rattle.history.specs.Laws.{HeldExactly, fresh-slots, fresh-contents, fresh-allowed, fresh-settled, counted, balance, naming, peak-end, peak, reached}

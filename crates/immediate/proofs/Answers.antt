@@ -11,7 +11,6 @@ use Rattle.sizing.specs.Accepted.{run-accepts}
 use Rattle.sizing.specs.declared.AnalysisAnswer.{AnalysisAnswer}
 use Rattle.state.specs.State.{emptyRun, freshRun, answered, answered-refused, answered-fine, refusedWith}
 use Rattle.state.specs.declared.Run.{Run}
-use Rattle.state.specs.declared.RunAnswer.{RunAnswer}
 use Rattle.history.specs.History.{after}
 use Rattle.schedule.specs.Schedule.{schedule}
 use Rattle.immediate.specs.Checks.{lengthCheck, immediateChecks, immediateRefusal, immediateAnswer, immediate-parts, immediate-accepts}

@@ -3,7 +3,7 @@
 --   Passing c k f i          f is N_i's count, and no count before it passes the limit
 --   passing-none, -more      at the start, and one node further
 --   passing-over, -past      9 speaks at the first count that passes, and is silent where none does
-use mathlib.Core.Path.{_≡_, refl, sym, ap, subst, _∙_}
+use mathlib.Core.Path.{_≡_, refl, sym, ap, _∙_}
 use mathlib.Core.Logic.{⊎-elim}
 use Prim.Native.Nat.{ℕ, suc, _+_, _*_, _≤_, _<_}
 use native.Mathlib.Nat.{eq-or-lt-of-le}

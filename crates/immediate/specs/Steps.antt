@@ -8,16 +8,16 @@
 --   fire-firing              such a firing is one that manual firing accepts
 --   fire-settle, -done, -sink, settle-none, -fire, -more, -less, -done
 --                            the steps
-use mathlib.Core.Path.{_≡_, refl, sym, ap, subst, _∙_}
-use mathlib.Core.Logic.{_≢_, ⊎-elim}
-use Prim.Native.Nat.{ℕ, zero, suc, _+_, _*_, _≤_, _<_}
+use mathlib.Core.Path.{_≡_, refl, ap, subst, _∙_}
+use mathlib.Core.Logic.{⊎-elim}
+use Prim.Native.Nat.{ℕ, suc, _+_, _*_, _≤_, _<_}
 use native.Mathlib.Nat.{le-trans, eq-or-lt-of-le}
 use native.Mathlib.Omega.{arith}
 use Rattle.chain.specs.Record.{rowOf}
 use Rattle.chain.specs.Sound.{Sound}
 use Rattle.chain.specs.declared.Chain.{Chain}
-use Rattle.sizing.specs.Sizes.{start, minimumOf, capacityOf}
-use Rattle.sizing.specs.Checks.{limit, Enough, enough-capacity}
+use Rattle.sizing.specs.Sizes.{start}
+use Rattle.sizing.specs.Checks.{Enough, enough-capacity}
 use Rattle.events.specs.Counts.{fires-reach}
 use Rattle.state.specs.State.{countAt, heldAt}
 use Rattle.state.specs.Fired.{fired, Over, Firing, count-fired, count-other, held-other}

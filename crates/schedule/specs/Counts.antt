@@ -2,17 +2,20 @@
 --   c, k, i                  a chain, how often the source has fired, a node
 --   fed c i N                how often N_(i+1) has fired where N_i has fired N times and queue i is below threshold: one step of F
 --   F c k i                  how often N_i has fired after k firings of the source
+--   feed-counts              P5: Feed's sink
 --   fed-mono, F-mono         more firings give no fewer
 --   F-feeds                  a node that has fired was fed by one that has
 --   turnsOf c i              y_i/y: how many firings of the source N_i's cycle has; turns-source, -next: node by node
 --   rates                    m times as many source firings more give N_i m times x_i firings more
 --   rate                     "for a node that has fired by k, k + y_i/y firings of the source give it x_i firings more"
-use mathlib.Core.Path.{_≡_, sym, ap, _∙_}
+use mathlib.Core.Path.{_≡_, refl, sym, ap, _∙_}
+use mathlib.Core.List.{[], _∷_, map}
 use Prim.Native.Nat.{ℕ, zero, suc, _+_, _*_, _/_, _≤_, _<_}
 use native.Mathlib.Nat.{mul-le-mul-left, mul-zero, one-mul, mul-assoc, mul-div-assoc, mul-div-cancel}
 use native.Mathlib.Omega.{arith}
 use Rattle.chain.specs.Record.{rowOf}
 use Rattle.chain.specs.Sound.{Sound}
+use Rattle.chain.specs.Factory.{factoryAnswer}
 use Rattle.chain.specs.declared.Chain.{Chain}
 use Rattle.rates.specs.Rates.{nextX, next-balance}
 use Rattle.events.specs.Counts.{fires, fires-pos, fires-mono, fires-shift}
@@ -28,6 +31,11 @@ unfoldable pub F : Chain → ℕ → ℕ → ℕ
 unfolding fires
 F c k zero = k
 F c k (suc i) = fed c i (F c k i)
+
+-- P5: Feed's sink after 0 to 4 firings of the source
+pub feed-counts : map (λ k. F (factoryAnswer 0 .chain) k 1) (0 ∷ 1 ∷ 2 ∷ 3 ∷ 4 ∷ []) ≡ 0 ∷ 0 ∷ 1 ∷ 2 ∷ 4 ∷ []
+unfolding F factoryAnswer
+feed-counts = refl
 
 pub fed-mono : (c : Chain) (i N M : ℕ) → N ≤ M → fed c i N ≤ fed c i M
 fed-mono c i N M l = fires-mono _ _ _ _ (omega (arith, mul-le-mul-left (rowOf c i .produce) l))

@@ -1,5 +1,4 @@
 -- Immediate runs of the factory chains, each computed.
---   feed-counts              P5: Feed's sink after 0 to 4 firings of the source
 --   feed-schedule            the order of Feed's run of 4
 --   feed-after, feed-left    P5: the state after it, whose queue holds 4
 --   permeate-schedule        the order of Permeate's run of 3: the second firing of N_1 sets off two of the sink
@@ -22,10 +21,6 @@ permeate = factoryAnswer 1 .chain
 
 abbrev flush : Chain
 flush = factoryAnswer 2 .chain
-
-pub feed-counts : map (λ k. F feed k 1) (0 ∷ 1 ∷ 2 ∷ 3 ∷ 4 ∷ []) ≡ 0 ∷ 0 ∷ 1 ∷ 2 ∷ 4 ∷ []
-unfolding F factoryAnswer
-feed-counts = refl
 
 pub feed-schedule : schedule feed 4 ≡ 0 ∷ 0 ∷ 1 ∷ 0 ∷ 1 ∷ 0 ∷ 1 ∷ 1 ∷ []
 unfolding schedule factoryAnswer

@@ -19,7 +19,7 @@
 --                            so manual firing accepts each of its firings in turn, the capacities being enough and the counts within the limit
 --   any-order                any permitted order that ends so leads to the schedule's state
 use mathlib.Core.Path.{_≡_, refl, sym, ap, ap₂, subst, _∙_}
-use mathlib.Core.Logic.{_⊎_, ⊎-elim, by-cases}
+use mathlib.Core.Logic.{by-cases}
 use mathlib.Core.List.{List, [], _∷_, _++_, append-nil, append-assoc}
 use Prim.Native.Nat.{ℕ, zero, suc, _+_, _-_, _*_, _≤_, _<_}
 use native.Mathlib.Nat.{le-refl, le-trans, lt-of-not-le, add-zero, zero-add}
@@ -29,11 +29,11 @@ use lib.ListN.{length}
 use Rattle.chain.specs.Record.{rowOf}
 use Rattle.chain.specs.Sound.{Sound}
 use Rattle.chain.specs.declared.Chain.{Chain}
-use Rattle.onequeue.specs.Capacity.{capacity, capacity-minimum, capacity-written}
+use Rattle.onequeue.specs.Capacity.{capacity}
 use Rattle.onequeue.specs.Minimum.{minimum-threshold}
 use Rattle.events.specs.Counts.{fires, fires-reach, fires-settles}
 use Rattle.sizing.specs.Sizes.{start, minimumOf, capacityOf}
-use Rattle.sizing.specs.Checks.{limit, Enough}
+use Rattle.sizing.specs.Checks.{limit, Enough, enough-capacity}
 use Rattle.sizing.specs.Accepted.{Accepted}
 use Rattle.state.specs.State.{countAt, heldAt, freshRun, fresh-count, fresh-held}
 use Rattle.state.specs.Fired.{fired, Over, counts-length, count-fired, count-other, held-output, held-input, held-other}
@@ -274,12 +274,6 @@ tight-fired {c} {s} {i} k r next tight j l = by-cases (ℕ-discrete j i)
     (λ e. rw (← e) (omega (arith, held-input c s j (omega (arith, r .deep, k .count .1)) (over-takes c s i j e (next .over) (k .rows j l .order)), tight j l)))
     (λ ne′. omega (arith, held-other c s i j ne ne′, tight j l)))
 
--- a capacity that is enough is at least the minimum
-enough-holds : (B b : ℕ) → (B ≡ 0) ⊎ (b ≤ B) → b ≤ capacity B b
-enough-holds B b h = by-cases (ℕ-discrete B 0)
-    (λ z. rw z (omega (arith, capacity-minimum b)))
-    (λ ne. ⊎-elim (λ z. absurd (ne z)) (λ l. omega (arith, capacity-written B b ne)) h)
-
 pub follows-permitted : {c : Chain} → Accepted c → ((i : ℕ) → i < c .n → Enough c i) → (s : Run) (h : List ℕ) → Reached c s → Tight c s
     → ((j : ℕ) → j ≤ c .n → countAt (after c s h) j ≤ limit) → Follows c s h → Permitted c s h
 unfolding after Permitted Follows
@@ -288,7 +282,7 @@ follows-permitted {c} a enough s (i ∷ h) r tight most f =
     let k : Sound c = a .chain in
     let next : Next c s i = f .0 in
     let slot : i < length (s .counts) = omega (arith, reached-slots k r .counts, next .node) in
-    let cap : (j : ℕ) → j < c .n → minimumOf (rowOf c j) ≤ capacityOf (rowOf c j) = λ j l. enough-holds _ _ (enough j l) in
+    let cap : (j : ℕ) → j < c .n → minimumOf (rowOf c j) ≤ capacityOf (rowOf c j) = λ j l. enough-capacity c j (enough j l) in
     let later : countAt (fired c s i) i ≤ limit = omega (arith, counted-from c (fired c s i) h i (omega (arith, counts-length c s i)), most i (next .node)) in (
       fire-accepts c s i .1 (
         a,

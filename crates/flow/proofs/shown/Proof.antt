@@ -1,7 +1,5 @@
 -- `flow::shown` meets its contract: before slot i is filled in, the slots before it are.
-use mathlib.Core.Path.{_≡_}
-use Prim.Native.Nat.{ℕ, _+_, _-_, _≤_, _<_}
-use native.Mathlib.Omega.{arith}
+use Prim.Native.Nat.{_-_}
 use borrow.Author.Needs.{needs}
 use Rattle.flow.specs.Shown.{Part, part-none, part-more, part-shown}
 use Rattle.flow.proofs.shown.Statement.{statement}

@@ -1,7 +1,6 @@
 -- `flow::started` meets its contract: before queue i is filled in, the rows before it are, and no count or contents are there.
-use Prim.Native.Nat.{ℕ, _+_, _-_, _≤_, _<_}
+use Prim.Native.Nat.{_-_}
 use native.Mathlib.Nat.{zero-add}
-use native.Mathlib.Omega.{arith}
 use borrow.Author.Needs.{needs}
 use Rattle.flow.specs.Shown.{Filled, filled-none, filled-more, filled-shows}
 use Rattle.flow.proofs.started.Statement.{statement}

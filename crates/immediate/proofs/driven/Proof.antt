@@ -1,7 +1,6 @@
 -- `immediate::driven` meets its contract: before the source fires for the m-th time, the flow shows m firings, all settled.
 use mathlib.Core.Path.{_∙_}
-use Prim.Native.Nat.{ℕ, _+_, _-_, _≤_, _<_}
-use native.Mathlib.Omega.{arith}
+use Prim.Native.Nat.{_-_}
 use borrow.Author.Needs.{needs}
 use Rattle.immediate.specs.Lent.{Driving, driving-none, driving-fire, driving-more, driving-done}
 use Rattle.immediate.proofs.driven.Statement.{statement}

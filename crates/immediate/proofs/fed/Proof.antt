@@ -1,6 +1,6 @@
 -- `immediate::fed` meets its contract: what is put in stays below 2 ^ 36, and the count follows F's two cases.
-use mathlib.Core.Path.{_≡_, sym, ap, _∙_}
-use Prim.Native.Nat.{ℕ, _+_, _-_, _*_, _/_, _≤_, _<_}
+use mathlib.Core.Path.{sym, ap, _∙_}
+use Prim.Native.Nat.{ℕ, _-_, _*_}
 use native.Mathlib.Nat.{zero-add, mul-le-mul, div-le-self}
 use native.Mathlib.Omega.{arith}
 use Rattle.events.specs.Counts.{fires, fires-below, fires-from}

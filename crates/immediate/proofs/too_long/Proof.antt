@@ -1,6 +1,5 @@
 -- `immediate::too_long` meets its contract: before node i is looked at, no count before it passes the limit.
-use mathlib.Core.Path.{_≡_, _∙_}
-use Prim.Native.Nat.{ℕ, _+_, _-_, _≤_, _<_}
+use Prim.Native.Nat.{_-_, _<_}
 use native.Mathlib.Omega.{arith}
 use borrow.Author.Needs.{needs}
 use Rattle.immediate.specs.Long.{Passing, passing-none, passing-more, passing-over, passing-past}
