@@ -4,10 +4,11 @@ use mathlib.Core.Bool.{Bool, true, false, cond}
 use Prim.Native.Nat.{ℕ}
 use lib.Dec.{eqb}
 use Rattle.chain.specs.Refusals.{refused, first, Silent, silent-as, first-fine, or-left, or-right}
+use Rattle.chain.specs.Checks.{chainRefusal}
 use Rattle.chain.specs.declared.Refusal.{Refusal}
 use Rattle.chain.specs.declared.Chain.{Chain}
 use Rattle.sizing.specs.Sizes.{sized}
-use Rattle.sizing.specs.Checks.{analyseRefusal, analyseAnswer}
+use Rattle.sizing.specs.Checks.{sizeChecks, analyseRefusal, analyseAnswer, analyse-parts}
 use Rattle.sizing.specs.Accepted.{analysed}
 use Rattle.sizing.specs.declared.AnalysisAnswer.{AnalysisAnswer}
 use Rattle.state.specs.State.{emptyRun, freshRun, fresh-empty, answered, answered-refused, answered-fine, refusedWith}
@@ -16,49 +17,58 @@ use Rattle.state.specs.Checks.{stateCheck, Analysed}
 use Rattle.state.specs.Fire.{freshAnswer, nodeChecks, fireChecks, fireRefusal, fireAnswer, fire-parts, fire-accepts}
 use Rattle.state.specs.declared.Run.{Run}
 
-module _ (c : Chain) {a : AnalysisAnswer} (e : a ≡ analyseAnswer c) where
-  -- what the analysis is refused with
-  says : refused (a .number) (a .place) ≡ analyseRefusal c
-  unfolding analyseAnswer sized
-  says = ap (λ (b : AnalysisAnswer). refused (b .number) (b .place)) e
+-- a fresh start: what the analysis is refused with, and an empty state either way
+pub fresh-made : (c : Chain) {a : AnalysisAnswer} → a ≡ analyseAnswer c → refusedWith (a .number) (a .place) emptyRun ≡ freshAnswer c
+unfolding freshAnswer answered analyseAnswer sized
+fresh-made c e =
+    ap (λ (b : AnalysisAnswer). refusedWith (b .number) (b .place) emptyRun) e
+    ∙ ap (refusedWith (analyseRefusal c .number) (analyseRefusal c .place)) (either (eqb (analyseRefusal c .number) 0))
+  where
+    either : (b : Bool) → emptyRun ≡ cond b (freshRun c) emptyRun
+    either true = fresh-empty c
+    either false = refl
 
-  pub fresh-made : refusedWith (a .number) (a .place) emptyRun ≡ freshAnswer c
-  unfolding freshAnswer answered
-  fresh-made =
-      ap (λ (r : Refusal). refusedWith (r .number) (r .place) emptyRun) says
-      ∙ ap (refusedWith (analyseRefusal c .number) (analyseRefusal c .place)) (either (eqb (analyseRefusal c .number) 0))
-    where
-      either : (b : Bool) → emptyRun ≡ cond b (freshRun c) emptyRun
-      either true = fresh-empty c
-      either false = refl
+module _ (c : Chain) (s : Run) (i : ℕ) where
+  -- a refusal gives the state back as it was
+  back : {r : Refusal} → r ≡ fireRefusal c s i → (Silent r → ⊥) → refusedWith (r .number) (r .place) s ≡ fireAnswer c s i
+  unfolding fireAnswer
+  back {r} f n = answered-refused r s (fired c s i) n ∙ ap (λ (g : Refusal). answered g s (fired c s i)) f
 
-  pub analysed-is : a .number ≡ 0 → Analysed c (a .analysis)
-  analysed-is z = record { chain = analysed c e z .0 .chain; sizes = ap (λ (b : AnalysisAnswer). b .analysis) (analysed c e z .1) }
+  module _ {w : Refusal} (d : w ≡ chainRefusal c) where
+    pub chain-refuses : (Silent w → ⊥) → refusedWith (w .number) (w .place) s ≡ fireAnswer c s i
+    chain-refuses n = back (or-left _ (or-left _ d n ∙ sym (analyse-parts c)) n ∙ sym (fire-parts c s i)) n
 
-  module _ (s : Run) (i : ℕ) where
-    -- a refusal gives the state back as it was
-    back : {r : Refusal} → r ≡ fireRefusal c s i → (Silent r → ⊥) → refusedWith (r .number) (r .place) s ≡ fireAnswer c s i
-    unfolding fireAnswer
-    back {r} f n = answered-refused r s (fired c s i) n ∙ ap (λ (g : Refusal). answered g s (fired c s i)) f
+    module _ (y : Silent w) {a : AnalysisAnswer} (e : a ≡ sized (first (sizeChecks c)) c) where
+      -- what the analysis is refused with
+      says : refused (a .number) (a .place) ≡ analyseRefusal c
+      unfolding sized
+      says = or-right d y (ap (λ (b : AnalysisAnswer). refused (b .number) (b .place)) e) ∙ sym (analyse-parts c)
 
-    pub analysis-refuses : (a .number ≡ 0 → ⊥) → refusedWith (a .number) (a .place) s ≡ fireAnswer c s i
-    analysis-refuses n = back (or-left _ says n ∙ sym (fire-parts c s i)) n
+      pub analysis-refuses : (a .number ≡ 0 → ⊥) → refusedWith (a .number) (a .place) s ≡ fireAnswer c s i
+      analysis-refuses n = back (or-left _ says n ∙ sym (fire-parts c s i)) n
 
-    module _ (z : a .number ≡ 0) {r : Refusal} (f : r ≡ stateCheck c s) where
-      pub state-refuses : (Silent r → ⊥) → refusedWith (r .number) (r .place) s ≡ fireAnswer c s i
-      state-refuses n = back (or-right says z (or-left _ f n) ∙ sym (fire-parts c s i)) n
+      module _ (z : a .number ≡ 0) where
+        pub analysed-is : Analysed c (a .analysis)
+        unfolding analyseAnswer
+        analysed-is =
+            let whole = analysed c (e ∙ ap (λ (r : Refusal). sized r c) (or-right d y refl ∙ sym (analyse-parts c))) z in
+            record { chain = whole .0 .chain; sizes = ap (λ (b : AnalysisAnswer). b .analysis) (whole .1) }
 
-      module _ (q : Silent r) {o : Refusal} (g : o ≡ first (nodeChecks c s i)) where
-        own : o ≡ fireRefusal c s i
-        own = or-right says z (or-right f q g) ∙ sym (fire-parts c s i)
+        module _ {r : Refusal} (f : r ≡ stateCheck c s) where
+          pub state-refuses : (Silent r → ⊥) → refusedWith (r .number) (r .place) s ≡ fireAnswer c s i
+          state-refuses n = back (or-right says z (or-left _ f n) ∙ sym (fire-parts c s i)) n
 
-        pub node-refuses : (Silent o → ⊥) → refusedWith (o .number) (o .place) s ≡ fireAnswer c s i
-        node-refuses n = back own n
+          module _ (q : Silent r) {o : Refusal} (g : o ≡ first (nodeChecks c s i)) where
+            own : o ≡ fireRefusal c s i
+            own = or-right says z (or-right f q g) ∙ sym (fire-parts c s i)
 
-        module _ (p : Silent o) where
-          pub accepts : Firing c s i
-          accepts = let h = fire-accepts c s i .0 (silent-as own p) in record { chain = h .0 .chain; may = h .1 .1 }
+            pub node-refuses : (Silent o → ⊥) → refusedWith (o .number) (o .place) s ≡ fireAnswer c s i
+            node-refuses n = back own n
 
-          pub fires : {t : Run} → t ≡ fired c s i → record { number = 0; place = 0; run = t } ≡ fireAnswer c s i
-          unfolding fireAnswer fireRefusal
-          fires h = rw h (answered-fine s (fired c s i) (sym (first-fine (fireChecks c s i) (silent-as own p))))
+            module _ (p : Silent o) where
+              pub accepts : Firing c s i
+              accepts = let h = fire-accepts c s i .0 (silent-as own p) in record { chain = h .0 .chain; may = h .1 .1 }
+
+              pub fires : {t : Run} → t ≡ fired c s i → record { number = 0; place = 0; run = t } ≡ fireAnswer c s i
+              unfolding fireAnswer fireRefusal
+              fires h = rw h (answered-fine s (fired c s i) (sym (first-fine (fireChecks c s i) (silent-as own p))))

@@ -189,11 +189,6 @@ pub record Ruled (q : Queue) (k : ℕ) : Type 0 where
   pub sound : SoundRow q
   pub capacity : k ≡ capacityOf q
 
--- a node of a sound chain
-pub record Node (c : Chain) (i : ℕ) : Type 0 where
-  pub chain : Sound c
-  pub node : i ≤ c .n
-
 -- the capacity that the analysis has of queue i is the one in force
 pub ruled : {c : Chain} {a : Analysis} → Analysed c a → (i : ℕ) → i < c .n → Ruled (rowOf c i) (getD (a .queues) i noSize .capacity)
 unfolding sizeBy

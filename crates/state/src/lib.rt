@@ -1,12 +1,11 @@
 // The run state: a fresh start, what one firing does to it, and manual firing.
 ghost use mathlib.Core.Path.{_≡_};
-ghost use mathlib.Core.Bool.{not};
 ghost use lib.Dec.{ltb};
-ghost use Prim.Native.Nat.{_+_};
+ghost use Prim.Native.Nat.{_+_, _-_};
 ghost use Rattle.chain.specs.Refusals.{first, refused};
 ghost use Rattle.state.specs.State.{refusedWith};
 ghost use Rattle.state.specs.Fired.{fired, Firing};
-ghost use Rattle.state.specs.Checks.{broken, stateCheck, over, cramped, Analysed, Ruled, Node};
+ghost use Rattle.state.specs.Checks.{broken, stateCheck, Analysed, Ruled};
 ghost use Rattle.state.specs.Fire.{freshAnswer, nodeChecks, fireAnswer};
 use chain::Chain;
 use chain::Queue;
@@ -77,7 +76,11 @@ impl Run {
     pub fn fire(self, chain: Chain, node: u32) -> RunAnswer
         ensures { λ r. ⌜ r ≡ fireAnswer chain self node ⌝ }
     {
-        let sized = sizing::analyse(chain);
+        let wrong = chain::check_chain(chain);
+        if wrong.number != 0 {
+            return given_back(wrong.number, wrong.place, self);
+        }
+        let sized = sizing::sized(chain);
         if sized.number != 0 {
             return given_back(sized.number, sized.place, self);
         }
@@ -155,10 +158,29 @@ fn node_check(chain: Chain, analysis: Analysis, run: Run, node: u32) -> Refusal
     if run.counts[i] == LIMIT {
         return refusal(9, node);
     }
-    if is_waiting(chain, run, i) {
+    let j = input_of(i);
+    if (0 < i) & (run.held[j] < chain.queues[j].threshold) {
         return refusal(11, node);
     }
-    chain::test(12, node, is_cramped(chain, analysis, run, i))
+    if chain.n <= node {
+        return chain::FINE;
+    }
+    chain::test(
+        12,
+        node,
+        passes(
+            analysis.queues[i].capacity,
+            run.held[i],
+            chain.queues[i].produce,
+        ),
+    )
+}
+
+// The queue before node i; for the source, which has none, the first.
+fn input_of(i: usize) -> usize
+    ensures { λ r. ⌜ r ≡ i - 1 ⌝ }
+{
+    if 0 < i { i - 1 } else { 0 }
 }
 
 // A refusal of this number and place.
@@ -169,33 +191,6 @@ fn refusal(number: u32, place: u32) -> Refusal
         number: number,
         place: place,
     }
-}
-
-// Whether node i is not over threshold.
-fn is_waiting(chain: Chain, run: Run, i: usize) -> bool
-    requires { ⌜ Node chain i ⌝ }
-    ensures { λ r. ⌜ r ≡ not (over chain run i) ⌝ }
-{
-    if i == 0 {
-        return false;
-    }
-    let j = i - 1;
-    run.held[j] < chain.queues[j].threshold
-}
-
-// Whether a firing of node i would pass the capacity of its output queue.
-fn is_cramped(chain: Chain, analysis: Analysis, run: Run, i: usize) -> bool
-    requires { ⌜ Analysed chain analysis ⌝ }
-    ensures { λ r. ⌜ r ≡ cramped chain run i ⌝ }
-{
-    if chain.n as usize <= i {
-        return false;
-    }
-    passes(
-        analysis.queues[i].capacity,
-        run.held[i],
-        chain.queues[i].produce,
-    )
 }
 
 // Whether a queue that holds so much passes its capacity with so much more.
