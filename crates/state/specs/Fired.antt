@@ -9,7 +9,10 @@
 --   held-output, -input, -other, -sink
 --                            its output queue has p more and its input queue c less, said with no minus; every other queue is as it was
 --   counts-, holds-length    a firing keeps the number of slots
---   balance-kept             so each queue's balance is kept
+--   Balance c s j            what was put into queue j is what it holds and what was taken out
+--   Slots n s, slots-kept    the state has a slot for each node and queue, and a firing keeps them
+--   balance-kept             a firing keeps each queue's balance
+--   Firing c s i             what the code of a firing asks
 use mathlib.Core.Path.{_≡_, refl, sym, ap, _∙_}
 use mathlib.Core.Bool.{Bool, true, false, cond}
 use mathlib.Core.Logic.{_≢_, by-cases}
@@ -39,7 +42,7 @@ unfoldable pub consumed : Chain → ℕ → List ℕ → List ℕ
 consumed c zero h = h
 consumed c (suc j) h = set h j (getD h j 0 - rowOf c j .consume)
 
--- a finished firing of N_i: "production first, then removal", and one more in its count
+-- a finished firing of N_i: first what it produces, "then" what it removes, and one more in its count
 unfoldable pub fired : Chain → Run → ℕ → Run
 unfolding produced consumed
 fired c s i = record { clock = s .clock; counts = set (s .counts) i (countAt s i + 1); held = consumed c i (produced c i (s .held)); done = s .done }
@@ -124,7 +127,7 @@ module _ (c : Chain) (s : Run) where
   unfolding fired
   holds-length i = length-consumed c i _ ∙ length-produced c i (s .held)
 
--- the balance of queue j: "p × producer's count" of what it started with is what is held and "c × consumer's count"
+-- the balance of queue j as a sum: what it started with and "p × producer's count" make what is held and "c × consumer's count"
 abbrev pub Balance : Chain → Run → ℕ → Type 0
 Balance c s j = start (rowOf c j) + rowOf c j .produce * countAt s j ≡ heldAt s j + rowOf c j .consume * countAt s (suc j)
 
