@@ -7,7 +7,7 @@
 --   shows-fired            a firing of the flow is the firing of what it shows
 --   Ready l i              what the code of a firing asks: l shows a state in which manual firing accepts it
 --   Puts l i, Takes l i    what the code of its steps asks: the sum fits, and there is enough to take
---   ready-node, -count, -puts, -takes, -shows
+--   ready-node, -count, -puts, -takes
 --                          which such a flow gives
 use mathlib.Core.Path.{_≡_, refl, sym, ap, subst, _∙_}
 use mathlib.Core.Bool.{Bool, true, false, cond}
@@ -25,7 +25,8 @@ use Rattle.chain.specs.declared.Chain.{Chain}
 use Rattle.sizing.specs.Sizes.{capacity-most}
 use Rattle.sizing.specs.Checks.{limit}
 use Rattle.state.specs.State.{countAt, heldAt}
-use Rattle.state.specs.Fired.{fired, Firing, count-fired, count-other, held-output, held-input, held-other, held-sink, counts-length, holds-length}
+use Rattle.state.specs.Fired.{fired, over-enough, count-fired, count-other, held-output, held-input, held-other, held-sink, counts-length, holds-length}
+use Rattle.state.specs.Fire.{Firing}
 use Rattle.state.specs.declared.Run.{Run}
 
 -- N_i has fired once more
@@ -168,7 +169,7 @@ module _ {l : List ℕ} {c : Chain} {s : Run} (x : Shows l c s) (j : ℕ) (k : F
       put-other (counted l (suc j)) (suc j) (32 + j) (λ e. omega (arith, x .few, k .may .node)) ∙ counted-other l (suc j) (32 + j) (λ e. omega (arith, x .few, k .may .node)) ∙ x .takes j (k .may .node)
 
   input-enough : rowOf c j .consume ≤ heldAt s j
-  input-enough = omega (arith, k .may .over, k .chain .rows j (k .may .node) .order)
+  input-enough = over-enough (k .chain .chain) s j (k .may .node) (k .may .over)
 
   input-shown : getD (firing l (suc j)) (65 + j) 0 ≡ heldAt (fired c s (suc j)) j
   unfolding firing takenOut
@@ -223,7 +224,7 @@ module _ {l : List ℕ} {i : ℕ} (r : Ready l i) where
             let f : i < r .chain .n = omega arith in
             let a = counted-other l i (65 + i) (λ e. omega arith) ∙ r .shows .holds i (omega (arith, r .shows .few)) in
             let b = counted-other l i i (λ e. omega arith) ∙ r .shows .puts i f in
-            omega (arith, a, b, r .firing .may .room f, capacity-most (r .firing .chain .rows i f));
+            omega (arith, a, b, r .firing .may .room f, capacity-most (r .firing .chain .chain .rows i f));
       }
 
   pub ready-takes : Takes (putIn (counted l i) i) i
@@ -234,6 +235,3 @@ module _ {l : List ℕ} {i : ℕ} (r : Ready l i) where
 
       enough : (j : ℕ) → i ≡ suc j → getD (putIn (counted l i) i) (32 + j) 0 ≤ getD (putIn (counted l i) i) (65 + j) 0
       enough j e = subst (λ (m : ℕ). getD (putIn (counted l m) m) (32 + j) 0 ≤ getD (putIn (counted l m) m) (65 + j) 0) (sym e) (at j (subst (Firing (r .chain) (r .run)) e (r .firing)))
-
-  pub ready-shows : Shows (firing l i) (r .chain) (fired (r .chain) (r .run) i)
-  ready-shows = shows-fired (r .shows) (r .firing)

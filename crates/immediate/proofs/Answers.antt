@@ -43,7 +43,7 @@ module _ (c : Chain) (k : ℕ) {a : AnalysisAnswer} (e : a ≡ runAnswer c) wher
 
       module _ (q : Silent r) where
         pub bounds : Bounds k c
-        bounds = let h = immediate-accepts c k .0 (silent-as whole q) in record { sound = sound-chain; enough = h .0 .1; within = h .1 }
+        bounds = let h = immediate-accepts c k .0 (silent-as whole q) in record { accepted = h .0 .0; enough = h .0 .1; within = h .1 }
 
         pub ran : {t : Run} → t ≡ after c (freshRun c) (schedule c k) → record { number = 0; place = 0; run = t } ≡ immediateAnswer c k
         unfolding immediateAnswer immediateRefusal

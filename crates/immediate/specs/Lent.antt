@@ -17,6 +17,7 @@ use native.Mathlib.Numerals.{add-one}
 use native.Mathlib.Omega.{arith}
 use lib.ListN.{getD}
 use Rattle.chain.specs.Record.{rowOf}
+use Rattle.chain.specs.Sound.{Sound}
 use Rattle.chain.specs.declared.Chain.{Chain}
 use Rattle.state.specs.State.{countAt, heldAt, freshRun, fresh-count}
 use Rattle.state.specs.Fired.{fired}
@@ -24,10 +25,10 @@ use Rattle.state.specs.declared.Run.{Run}
 use Rattle.history.specs.History.{after}
 use Rattle.schedule.specs.Counts.{F}
 use Rattle.schedule.specs.Reached.{Reached, Calm, reached-fresh, fresh-calm, one-state}
-use Rattle.schedule.specs.Schedule.{schedule, ends, reached, counts-are-F}
+use Rattle.schedule.specs.Schedule.{schedule, fresh-tight, ends, reached, counts-are-F}
 use Rattle.flow.specs.Flow.{firing, Shows, Ready, shows-fired}
 use Rattle.flow.specs.Shown.{shown, shown-is}
-use Rattle.immediate.specs.Steps.{Bounds, FireAsk, FireDone, SettleAsk, SettleDone, Settling, fire-word, fire-firing, fire-settle, fire-done, fire-sink, settle-none, settle-fire, settle-more, settle-less, settle-done}
+use Rattle.immediate.specs.Steps.{Bounds, Held, FireAsk, FireDone, SettleAsk, SettleDone, Settling, fire-word, fire-firing, fire-settle, fire-done, fire-sink, settle-none, settle-fire, settle-more, settle-less, settle-done}
 
 -- the flow shows a state in which N_i may fire, nearest the sink
 pub record Fire (l : List ℕ) (i : ℕ) : Type 0 where
@@ -140,9 +141,9 @@ module _ {l m : List ℕ} {q : ℕ} (g : Going l q m) where
           let b : q < 16 = omega (arith, a .shows .few, a .ask .queue) in
           omega (arith, z .shows .holds q b, y .shows .holds q b, settle-less (a .ask) (y .is) (z .is))
 
--- a calm state after m source firings
+-- only the source may fire, and has fired m times
 pub record Source (c : Chain) (m : ℕ) (s : Run) : Type 0 where
-  pub reached : Reached c s
+  pub held : Held c s
   pub calm : Calm c s 0
   pub count : countAt s 0 ≡ m
 
@@ -157,7 +158,7 @@ pub driving-none : (k : ℕ) (l : List ℕ) → Driving k l 0 l
 driving-none k l = record {
   gives = λ c b x. record {
     most = omega arith;
-    state = record { run = freshRun c; shows = x; is = record { reached = reached-fresh (b .sound); calm = fresh-calm (b .sound) 0; count = fresh-count c 0 } };
+    state = record { run = freshRun c; shows = x; is = record { held = record { reached = reached-fresh (b .accepted .chain); tight = fresh-tight (b .accepted .chain) }; calm = fresh-calm (b .accepted .chain) 0; count = fresh-count c 0 } };
   };
 }
 
@@ -166,7 +167,7 @@ source : {k m : ℕ} {c : Chain} {u : List ℕ} → Bounds k c → (d : Driven k
 unfolding F
 source b d h = record {
   bounds = b;
-  reached = d .state .is .reached;
+  held = d .state .is .held;
   node = omega arith;
   over = tt;
   calm = d .state .is .calm;
@@ -186,7 +187,7 @@ module _ {k m : ℕ} {l u : List ℕ} (g : Driving k l m u) where
         let z = f .gives k c (d .state .run) (d .state .shows) (source b d h) in
         record {
           most = omega arith;
-          state = record { run = z .run; shows = z .shows; is = record { reached = z .is .reached; calm = z .is .calm; count = z .is .once ∙ ap (λ (n : ℕ). n + 1) (d .state .is .count) } };
+          state = record { run = z .run; shows = z .shows; is = record { held = z .is .held; calm = z .is .calm; count = z .is .once ∙ ap (λ (n : ℕ). n + 1) (d .state .is .count) } };
         };
   }
 
@@ -195,6 +196,7 @@ module _ {k m : ℕ} {l u : List ℕ} (g : Driving k l m u) where
   unfolding F
   driving-done {c} b x h =
       let d = g .gives c b x in
-      let r : Reached c (d .state .run) = d .state .is .reached in
+      let sound : Sound c = b .accepted .chain in
+      let r : Reached c (d .state .run) = d .state .is .held .reached in
       shown-is (d .state .shows) (r .clock) (r .done)
-      ∙ one-state (b .sound) r (reached (b .sound) k) (d .state .is .calm) (ends (b .sound) k) (d .state .is .count ∙ le-antisymm (d .most) h ∙ sym (counts-are-F (b .sound) k 0 (omega arith)))
+      ∙ one-state sound r (reached sound k) (d .state .is .calm) (ends sound k) (d .state .is .count ∙ le-antisymm (d .most) h ∙ sym (counts-are-F sound k 0 (omega arith)))

@@ -5,7 +5,7 @@ ghost use Prim.Native.Nat.{_+_, _*_};
 ghost use Rattle.chain.specs.Sound.{Sound};
 ghost use Rattle.sizing.specs.Sizes.{start};
 ghost use Rattle.events.specs.Counts.{fires};
-ghost use Rattle.state.specs.State.{freshRun, refusedWith, emptyRun};
+ghost use Rattle.state.specs.State.{freshRun};
 ghost use Rattle.history.specs.History.{after};
 ghost use Rattle.schedule.specs.Schedule.{schedule};
 ghost use Rattle.immediate.specs.Checks.{lengthCheck, immediateAnswer};
@@ -32,11 +32,11 @@ pub fn immediate(chain: Chain, k: u32) -> RunAnswer
 {
     let sized = sizing::checked_for_run(chain);
     if sized.number != 0 {
-        return refused(sized.number, sized.place);
+        return state::given_back(sized.number, sized.place, state::EMPTY);
     }
     let long = too_long(chain, k);
     if long.number != 0 {
-        return refused(long.number, long.place);
+        return state::given_back(long.number, long.place, state::EMPTY);
     }
     RunAnswer {
         number: 0,
@@ -78,17 +78,6 @@ fn settle(flow: &mut [u32; LENGTH], q: usize)
 {
     while flow[THRESHOLD + q] <= flow[HELD + q] {
         fire(flow, q + 1);
-    }
-}
-
-// The answer of a refused run: all zero but for number and place.
-fn refused(number: u32, place: u32) -> RunAnswer
-    ensures { λ r. ⌜ r ≡ refusedWith number place emptyRun ⌝ }
-{
-    RunAnswer {
-        number: number,
-        place: place,
-        run: state::EMPTY,
     }
 }
 

@@ -25,9 +25,9 @@ use Rattle.chain.specs.declared.Chain.{Chain}
 use Rattle.sizing.specs.Sizes.{capacityOf}
 use Rattle.sizing.specs.Checks.{limit, analyseRefusal}
 use Rattle.state.specs.State.{countAt, heldAt, doneAt, emptyRun, freshRun, fresh-empty, answered}
-use Rattle.state.specs.Fired.{fired, Firing, counts-length, holds-length, count-fired, count-other, held-output, held-input, held-other, held-sink}
+use Rattle.state.specs.Fired.{fired, over-enough, counts-length, holds-length, count-fired, count-other, held-output, held-input, held-other, held-sink}
 use Rattle.state.specs.Checks.{broken, stateTest, stateCheck, spent, over, idle, cramped}
-use Rattle.state.specs.Fire.{freshAnswer, nodeChecks, fireRefusal, fireAnswer, fire-accepts, fire-accepted, fire-refused}
+use Rattle.state.specs.Fire.{freshAnswer, nodeChecks, fireRefusal, fireAnswer, Firing, firing-is, fire-accepted, fire-refused}
 use Rattle.state.specs.declared.Run.{Run}
 use Rattle.past.specs.Chains.{AlikeChains, checks-alike, analyse-alike}
 
@@ -107,21 +107,17 @@ module _ {c d : Chain} (a : AlikeChains c d) {s t : Run} (r : AlikeRuns (c .n) s
   unfolding fireRefusal
   fire-alike i = ap first (ap₂ _++_ (checks-alike a) (λ k. state-alike k ∷ node-alike i k))
 
--- what a firing that is not refused has
-firing : {c : Chain} {s : Run} {i : ℕ} → Silent (fireRefusal c s i) → Firing c s i
-firing {c} {s} {i} z = let f = fire-accepts c s i .0 z in record { chain = f .0 .chain; may = f .1 .1 }
-
 -- its node has a count
 count-slot : {c : Chain} {s : Run} {i : ℕ} → Whole s → Firing c s i → i < length (s .counts)
-count-slot w f = omega (arith, w .counts, f .chain .count .1, f .may .node)
+count-slot w f = omega (arith, w .counts, f .chain .chain .count .1, f .may .node)
 
 -- each queue of its chain has a slot
 held-slot : {c : Chain} {s : Run} {i : ℕ} → Whole s → Firing c s i → (j : ℕ) → j < c .n → j < length (s .held)
-held-slot w f j l = omega (arith, w .held, f .chain .count .1)
+held-slot w f j l = omega (arith, w .held, f .chain .chain .count .1)
 
 -- and its input queue holds what it takes
 enough : {c : Chain} {s : Run} {j : ℕ} → Firing c s (suc j) → rowOf c j .consume ≤ heldAt s j
-enough {c} {s} {j} f = omega (arith, f .may .over, f .chain .rows j (f .may .node) .order)
+enough {s = s} {j} f = over-enough (f .chain .chain) s j (f .may .node) (f .may .over)
 
 -- contents that lack the same of the same are the same
 less-alike : (x y k m a b : ℕ) → x + k ≡ a → y + m ≡ b → k ≡ m → a ≡ b → x ≡ y
@@ -162,13 +158,13 @@ module _ {c d : Chain} (a : AlikeChains c d) {s t : Run} (r : AlikeRuns (c .n) s
   past-n i = by-cases (ℕ-discrete (fireRefusal c s i .number) 0)
       (λ z.
       let y : Silent (fireRefusal d t i) = silent-as (fire-alike a r i) z in
-      rw (fire-accepted c s i z, fire-accepted d t i y) (fired-alike i (firing z) (firing y)))
+      rw (fire-accepted c s i z, fire-accepted d t i y) (fired-alike i (firing-is _ _ _ .0 z) (firing-is _ _ _ .0 y)))
       (λ n. rw (fire-refused c s i n, fire-refused d t i (λ y. n (silent-as (sym (fire-alike a r i)) y))) r)
 
 -- what holds of the state as it was, and of the state after a firing that is not refused, holds of the state given back
 given-back : (P : Run → Type 0) (c : Chain) (s : Run) (i : ℕ) → P s → (Firing c s i → P (fired c s i)) → P (fireAnswer c s i .run)
 given-back P c s i before after = by-cases (ℕ-discrete (fireRefusal c s i .number) 0)
-    (λ z. rw (fire-accepted c s i z) (after (firing z)))
+    (λ z. rw (fire-accepted c s i z) (after (firing-is _ _ _ .0 z)))
     (λ n. rw (fire-refused c s i n) before)
 
 -- a firing keeps the slots past n

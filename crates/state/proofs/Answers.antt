@@ -12,9 +12,9 @@ use Rattle.sizing.specs.Checks.{sizeChecks, analyseRefusal, analyseAnswer, anal
 use Rattle.sizing.specs.Accepted.{analysed}
 use Rattle.sizing.specs.declared.AnalysisAnswer.{AnalysisAnswer}
 use Rattle.state.specs.State.{emptyRun, freshRun, fresh-empty, answered, answered-refused, answered-fine, refusedWith}
-use Rattle.state.specs.Fired.{fired, Firing}
+use Rattle.state.specs.Fired.{fired}
 use Rattle.state.specs.Checks.{stateCheck, Analysed}
-use Rattle.state.specs.Fire.{freshAnswer, nodeChecks, fireChecks, fireRefusal, fireAnswer, fire-parts, fire-accepts}
+use Rattle.state.specs.Fire.{freshAnswer, fresh-state, nodeChecks, fireChecks, fireRefusal, fireAnswer, Firing, fire-parts, firing-is}
 use Rattle.state.specs.declared.Run.{Run}
 
 -- a fresh start: what the analysis is refused with, and an empty state either way
@@ -22,11 +22,7 @@ pub fresh-made : (c : Chain) {a : AnalysisAnswer} → a ≡ analyseAnswer c → 
 unfolding freshAnswer answered analyseAnswer sized
 fresh-made c e =
     ap (λ (b : AnalysisAnswer). refusedWith (b .number) (b .place) emptyRun) e
-    ∙ ap (refusedWith (analyseRefusal c .number) (analyseRefusal c .place)) (either (eqb (analyseRefusal c .number) 0))
-  where
-    either : (b : Bool) → emptyRun ≡ cond b (freshRun c) emptyRun
-    either true = fresh-empty c
-    either false = refl
+    ∙ ap (refusedWith (analyseRefusal c .number) (analyseRefusal c .place)) (fresh-empty c ∙ sym (fresh-state c))
 
 module _ (c : Chain) (s : Run) (i : ℕ) where
   -- a refusal gives the state back as it was
@@ -67,7 +63,7 @@ module _ (c : Chain) (s : Run) (i : ℕ) where
 
             module _ (p : Silent o) where
               pub accepts : Firing c s i
-              accepts = let h = fire-accepts c s i .0 (silent-as own p) in record { chain = h .0 .chain; may = h .1 .1 }
+              accepts = firing-is c s i .0 (silent-as own p)
 
               pub fires : {t : Run} → t ≡ fired c s i → record { number = 0; place = 0; run = t } ≡ fireAnswer c s i
               unfolding fireAnswer fireRefusal

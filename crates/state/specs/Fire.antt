@@ -1,5 +1,5 @@
 -- Manual firing (01, Firing), and what a call that gives a state answers.
---   freshAnswer c              the answer of a fresh start: 2, 4, 5, 6, 7, then the empty state
+--   freshAnswer c              the answer of a fresh start: 2, 4, 5, 6, 7, then the empty state (fresh-refusal, fresh-state)
 --   nodeChecks c s i           9, 11 and 12: the checks of a firing of N_i in a state that 17 has passed
 --   fireChecks c s i           the checks of manual firing, in order, never 8
 --   fireRefusal c s i, fireAnswer c s i
@@ -9,13 +9,16 @@
 --   fire-17, fire-9, fire-11, fire-12
 --                              when a firing is refused with each number of its own
 --   fire-accepts               it is not refused exactly when the chain is accepted, the state passes 17 and the firing may be
+--   Firing c s i, firing-is    the same as a record, which the code of every firing asks
 --   fire-accepted, fire-refused
 --                              the state that it gives back
-use mathlib.Core.Path.{_≡_, sym, _∙_}
+use mathlib.Core.Path.{_≡_, refl, sym, _∙_}
+use mathlib.Core.Bool.{Bool, true, false, cond}
 use mathlib.Core.Logic.{_↔_, _≢_, _⊎_, inl, ⊎-elim, Iff·trans, Iff·and, Iff·rfl}
 use mathlib.Core.List.{List, [], _∷_, _++_}
 use Prim.Native.Nat.{ℕ, _+_, _*_, _≤_, _<_}
 use native.Mathlib.Omega.{arith}
+use lib.Dec.{eqb}
 use lib.ListN.{getD, take}
 use borrow.Author.Tests.{eq-eqb, ne-eqb}
 use Rattle.chain.specs.Refusals.{refused, fine, first, orElse, first-append, Silent, Silents, number-of, or-says, or-silents, silent-as, first-silent, Numbered, exact-at, Only}
@@ -27,7 +30,7 @@ use Rattle.sizing.specs.Load.{busyIn}
 use Rattle.sizing.specs.Sizes.{capacityOf}
 use Rattle.sizing.specs.Checks.{limit, analyseChecks, analyseRefusal, rateCheck, rate-only, load-only}
 use Rattle.sizing.specs.Accepted.{Accepted, analyse-accepts}
-use Rattle.state.specs.State.{countAt, heldAt, emptyRun, freshRun, answered}
+use Rattle.state.specs.State.{countAt, heldAt, emptyRun, freshRun, fresh-empty, answered}
 use Rattle.state.specs.Fired.{fired, Over, May}
 use Rattle.state.specs.Checks as own
 use Rattle.state.specs.Checks.{stateCheck, countCheck, overCheck, cramped, roomCheck, FirstBroken, StateSound, state-exact, over-exact, room-exact, state-silent, over-silent, room-silent, state-only, over-only, room-only}
@@ -39,7 +42,7 @@ unfoldable pub freshAnswer : Chain → RunAnswer
 unfolding analyseRefusal answered freshRun
 freshAnswer c = answered (analyseRefusal c) emptyRun (freshRun c)
 
--- "answers 11, then 12; 9 tested before 11 and 12"
+-- "answers 11, then 12; 9 .. tested before 11 and 12"
 abbrev pub nodeChecks : Chain → Run → ℕ → List Refusal
 nodeChecks c s i = countCheck c s i ∷ overCheck c s i ∷ roomCheck c s i ∷ []
 
@@ -48,6 +51,7 @@ nodeChecks c s i = countCheck c s i ∷ overCheck c s i ∷ roomCheck c s i ∷ 
 abbrev pub fireChecks : Chain → Run → ℕ → List Refusal
 fireChecks c s i = analyseChecks c ++ (stateCheck c s ∷ nodeChecks c s i)
 
+-- what a firing is refused with
 unfoldable pub fireRefusal : Chain → Run → ℕ → Refusal
 unfolding first rangeCheck orderCheck rateCheck busyIn stateCheck cramped
 fireRefusal c s i = first (fireChecks c s i)
@@ -56,6 +60,26 @@ fireRefusal c s i = first (fireChecks c s i)
 unfoldable pub fireAnswer : Chain → Run → ℕ → RunAnswer
 unfolding fireRefusal answered fired
 fireAnswer c s i = answered (fireRefusal c s i) s (fired c s i)
+
+-- what the code of every firing asks: manual firing accepts it (firing-is)
+pub record Firing (c : Chain) (s : Run) (i : ℕ) : Type 0 where
+  pub chain : Accepted c
+  pub state : StateSound c s
+  pub may : May c s i
+
+-- a fresh start is refused as the analysis is, and gives the empty state either way
+module _ (c : Chain) where
+  pub fresh-refusal : refused (freshAnswer c .number) (freshAnswer c .place) ≡ analyseRefusal c
+  unfolding freshAnswer answered
+  fresh-refusal = refl
+
+  pub fresh-state : freshAnswer c .run ≡ freshRun c
+  unfolding freshAnswer answered
+  fresh-state = by (eqb (analyseRefusal c .number) 0)
+    where
+      by : (b : Bool) → cond b (freshRun c) emptyRun ≡ freshRun c
+      by true = refl
+      by false = fresh-empty c
 
 module _ (c : Chain) (s : Run) (i : ℕ) where
   pub fire-parts : fireRefusal c s i ≡ orElse (analyseRefusal c) (orElse (stateCheck c s) (first (nodeChecks c s i)))
@@ -123,6 +147,9 @@ module _ (c : Chain) (s : Run) (i : ℕ) where
 
       back : May c s i → Silents (nodeChecks c s i)
       back m = (own.count-silent c s i (m .node) .1 (m .countable), (over-silent c s i .1 (m .node, m .over), (room-silent c s i .1 (m .room), tt)))
+
+  pub firing-is : Silent (fireRefusal c s i) ↔ Firing c s i
+  firing-is = Iff·trans fire-accepts (λ h. record { chain = h .0; state = h .1 .0; may = h .1 .1 }, λ f. (f .chain, (f .state, f .may)))
 
   -- what a firing gives back: the state after it, or the state as it was
   pub fire-accepted : Silent (fireRefusal c s i) → fireAnswer c s i .run ≡ fired c s i

@@ -4,7 +4,8 @@
 --   fired c s i              the state s after a finished firing of N_i
 --   Over c s i               N_i may fire: it is the source, or its input queue holds at least τ
 --   Room c s i               its output queue, if any, has room for p
---   May c s i                manual firing accepts it: there is such a node, its count can grow, it may fire and there is room
+--   over-enough              a node that may fire finds what it takes
+--   May c s i                9, 11 and 12 let the firing pass: there is such a node, its count can grow, it may fire and there is room
 --   count-fired, -other      N_i has fired once more, and no other node
 --   held-output, -input, -other, -sink
 --                            its output queue has p more and its input queue c less, said with no minus; every other queue is as it was
@@ -12,7 +13,6 @@
 --   Balance c s j            what was put into queue j is what it holds and what was taken out
 --   Slots n s, slots-kept    the state has a slot for each node and queue, and a firing keeps them
 --   balance-kept             a firing keeps each queue's balance
---   Firing c s i             what the code of a firing asks
 use mathlib.Core.Path.{_≡_, refl, sym, ap, _∙_}
 use mathlib.Core.Bool.{Bool, true, false, cond}
 use mathlib.Core.Logic.{_≢_, by-cases}
@@ -52,11 +52,15 @@ abbrev pub Over : Chain → Run → ℕ → Type 0
 Over c s zero = Unit
 Over c s (suc j) = rowOf c j .threshold ≤ heldAt s j
 
+-- c is at most τ, so a node that may fire finds what it takes
+pub over-enough : {c : Chain} → Sound c → (s : Run) (j : ℕ) → j < c .n → Over c s (suc j) → rowOf c j .consume ≤ heldAt s j
+over-enough k s j l o = omega (arith, o, k .rows j l .order)
+
 -- "filling to exactly the capacity is allowed"
 abbrev pub Room : Chain → Run → ℕ → Type 0
 Room c s i = i < c .n → heldAt s i + rowOf c i .produce ≤ capacityOf (rowOf c i)
 
--- a firing of N_i is one that manual firing accepts
+-- 9, 11 and 12 of manual firing let a firing of N_i pass
 pub record May (c : Chain) (s : Run) (i : ℕ) : Type 0 where
   pub node : i ≤ c .n
   pub countable : countAt s i ≢ limit
@@ -155,8 +159,3 @@ balance-kept c s i j k l enough b = by-cases (ℕ-discrete j i)
     (λ ne. by-cases (ℕ-discrete (suc j) i)
     (λ e. take-balance _ _ _ _ _ _ _ _ _ (count-other c s i j ne) (rw e (count-fired c s i (omega (arith, k .counts)))) (rw (← e) (held-input c s j (omega (arith, k .held)) (enough (sym e)))) b)
     (λ ne′. keep-balance _ _ _ _ _ _ _ _ _ (count-other c s i j ne) (count-other c s i (suc j) ne′) (held-other c s i j ne ne′) b))
-
--- what the code of a firing asks: a sound chain, and a firing that manual firing accepts
-pub record Firing (c : Chain) (s : Run) (i : ℕ) : Type 0 where
-  pub chain : Sound c
-  pub may : May c s i

@@ -4,9 +4,9 @@ ghost use lib.Dec.{ltb};
 ghost use Prim.Native.Nat.{_+_, _-_};
 ghost use Rattle.chain.specs.Refusals.{first, refused};
 ghost use Rattle.state.specs.State.{refusedWith};
-ghost use Rattle.state.specs.Fired.{fired, Firing};
+ghost use Rattle.state.specs.Fired.{fired};
 ghost use Rattle.state.specs.Checks.{broken, stateCheck, Analysed, Ruled};
-ghost use Rattle.state.specs.Fire.{freshAnswer, nodeChecks, fireAnswer};
+ghost use Rattle.state.specs.Fire.{freshAnswer, nodeChecks, fireAnswer, Firing};
 use chain::Chain;
 use chain::Queue;
 use chain::Refusal;
@@ -54,7 +54,7 @@ pub fn fresh(chain: Chain) -> RunAnswer
 }
 
 // A finished firing of node i.
-pub fn effect(chain: Chain, run: Run, i: usize) -> Run
+fn effect(chain: Chain, run: Run, i: usize) -> Run
     requires { ⌜ Firing chain run i ⌝ }
     ensures { λ r. ⌜ r ≡ fired chain run i ⌝ }
 {
@@ -100,8 +100,8 @@ impl Run {
     }
 }
 
-// The answer of a refused call that was handed a state: the state as it was.
-fn given_back(number: u32, place: u32, run: Run) -> RunAnswer
+// The answer of a refused call: the refusal, with the state that is handed back.
+pub fn given_back(number: u32, place: u32, run: Run) -> RunAnswer
     ensures { λ r. ⌜ r ≡ refusedWith number place run ⌝ }
 {
     RunAnswer {
@@ -112,7 +112,7 @@ fn given_back(number: u32, place: u32, run: Run) -> RunAnswer
 }
 
 // 17: the lowest queue of which the state breaks the balance, passes the capacity, or has all the work of a firing done.
-pub fn state_check(chain: Chain, analysis: Analysis, run: Run) -> Refusal
+fn state_check(chain: Chain, analysis: Analysis, run: Run) -> Refusal
     requires { ⌜ Analysed chain analysis ⌝ }
     ensures { λ r. ⌜ r ≡ stateCheck chain run ⌝ }
 {

@@ -13,7 +13,7 @@ abbrev μ-loop : tie.MeasureT-loop
 μ-loop k flow₀ m₀ flow m = k - m
 
 started-requires : tie.Need-started-requires Inv-loop μ-loop
-started-requires c κs = c .pre .sound
+started-requires c κs = c .pre .accepted .chain
 
 loop-holds : tie.Need-loop-holds Inv-loop μ-loop
 loop-holds c = driving-none _ _

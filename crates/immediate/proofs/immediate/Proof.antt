@@ -8,22 +8,22 @@ use Rattle.immediate.proofs.immediate.Tie as tie
 checked-for-run-requires : tie.Need-checked-for-run-requires
 checked-for-run-requires c κs = search needs
 
-refused-requires : tie.Need-refused-requires
-refused-requires c κs = search needs
+given-back-requires : tie.Need-given-back-requires
+given-back-requires c κs = search needs
 
 returns : tie.Need-returns
-returns c = c .refused .ensures ∙ chain-refuses _ _ (c .before .before .before .checked-for-run .ensures) (c .before .if1 .taken)
+returns c = c .given-back .ensures ∙ chain-refuses _ _ (c .before .before .before .checked-for-run .ensures) (c .before .if1 .taken)
 
 too-long-requires : tie.Need-too-long-requires
 too-long-requires c κs = sound-chain _ (c .before .before .before .args .k) (c .before .before .checked-for-run .ensures) (c .if1 .left)
 
-refused-requires-2 : tie.Need-refused-requires-2
-refused-requires-2 c κs = search needs
+given-back-requires-2 : tie.Need-given-back-requires-2
+given-back-requires-2 c κs = search needs
 
 returns-2 : tie.Need-returns-2
 returns-2 c =
     let long = c .before .before .before in
-    c .refused2 .ensures ∙ length-refuses _ _ (long .before .before .before .checked-for-run .ensures) (long .before .if1 .left) (long .too-long .ensures) (c .before .if2 .taken)
+    c .given-back2 .ensures ∙ length-refuses _ _ (long .before .before .before .checked-for-run .ensures) (long .before .if1 .left) (long .too-long .ensures) (c .before .if2 .taken)
 
 driven-requires : tie.Need-driven-requires
 driven-requires c κs =
@@ -40,10 +40,10 @@ immediate-spec =
     tie.close
     (tie.spec
     checked-for-run-requires
-    refused-requires
+    given-back-requires
     returns
     too-long-requires
-    refused-requires-2
+    given-back-requires-2
     returns-2
     driven-requires
     returns-3)
