@@ -48,7 +48,13 @@ int main(int count, char **arguments)
      * keeps: each firing takes it and gives the next, and a refused one gives it back as it was. */
     struct ardenquill_run run = ardenquill_fresh(chain).run;
     for (int i = 1; i < count; i++) {
-        uint32_t node = (uint32_t)strtoul(arguments[i], NULL, 10);
+        char *end;
+        unsigned long number = strtoul(arguments[i], &end, 10);
+        if (end == arguments[i] || *end != '\0' || number > UINT32_MAX) {
+            fprintf(stderr, "firing: not the number of a node: %s\n", arguments[i]);
+            return 2;
+        }
+        uint32_t node = (uint32_t)number;
         struct ardenquill_run_answer answer = ardenquill_fire(chain, run, node);
         printf("node %lu: ", (unsigned long)node);
         if (answer.number != 0)

@@ -131,14 +131,14 @@ struct ardenquill_analysis {
 /* How far a run of a chain of n queues is. Only the first n slots of held and done and the first n+1 of counts are
  * looked at. A plain value: a call is handed one and gives the next, and keeps nothing of either. */
 struct ardenquill_run {
-    /* The ticks that have passed. Manual firing and the immediate run leave it alone. */
+    /* The ticks that have passed. Manual firing leaves it alone; after an immediate run it is 0. */
     uint32_t clock;
     /* How often N_i has fired, in slot i; slot 0 is the source's. */
     uint32_t counts[ARDENQUILL_MAX_QUEUES + 1];
     /* The tokens that queue i holds, in slot i. */
     uint32_t held[ARDENQUILL_MAX_QUEUES];
     /* The ticks of work that N_(i+1) has done on its current firing, in slot i; below its execution time. Manual
-     * firing and the immediate run leave them alone. */
+     * firing leaves them alone; after an immediate run they are 0. */
     uint32_t done[ARDENQUILL_MAX_QUEUES];
 };
 

@@ -1,5 +1,6 @@
 -- A chain's rows and a run's counts and contents in one list, which code lends from call to call in place of two records.
---   the flow               p of queue j at j, its τ at 16 + j, its c at 32 + j; N_j's count at 48 + j; what queue j holds at 65 + j; n at 82
+--   produceIn, thresholdIn, consumeIn, countIn, heldIn l j, sizeIn l
+--                          the numbers of a flow: each queue's p, τ and c, each node's count, what each queue holds, and n
 --   counted, putIn, takenOut l i
 --                          the three steps of a firing of N_i: its count, its output queue, its input queue
 --   firing l i             all three
@@ -29,18 +30,37 @@ use Rattle.state.specs.Fired.{fired, over-enough, count-fired, count-other, hel
 use Rattle.state.specs.Fire.{Firing}
 use Rattle.state.specs.declared.Run.{Run}
 
+-- where each number stands: p, τ and c of queue j, N_j's count, what queue j holds, and n; the word before n is 0, as what the sink of 16 queues would put out
+abbrev pub produceIn : List ℕ → ℕ → ℕ
+produceIn l j = getD l j 0
+
+abbrev pub thresholdIn : List ℕ → ℕ → ℕ
+thresholdIn l j = getD l (16 + j) 0
+
+abbrev pub consumeIn : List ℕ → ℕ → ℕ
+consumeIn l j = getD l (32 + j) 0
+
+abbrev pub countIn : List ℕ → ℕ → ℕ
+countIn l j = getD l (48 + j) 0
+
+abbrev pub heldIn : List ℕ → ℕ → ℕ
+heldIn l j = getD l (65 + j) 0
+
+abbrev pub sizeIn : List ℕ → ℕ
+sizeIn l = getD l 82 0
+
 -- N_i has fired once more
 abbrev pub counted : List ℕ → ℕ → List ℕ
-counted l i = set l (48 + i) (getD l (48 + i) 0 + 1)
+counted l i = set l (48 + i) (countIn l i + 1)
 
 -- p goes into the queue after N_i, if there is one
 unfoldable pub putIn : List ℕ → ℕ → List ℕ
-putIn l i = cond (ltb i (getD l 82 0)) (set l (65 + i) (getD l (65 + i) 0 + getD l i 0)) l
+putIn l i = cond (ltb i (sizeIn l)) (set l (65 + i) (heldIn l i + produceIn l i)) l
 
 -- c leaves the queue before N_i, if there is one
 unfoldable pub takenOut : List ℕ → ℕ → List ℕ
 takenOut l zero = l
-takenOut l (suc j) = set l (65 + j) (getD l (65 + j) 0 - getD l (32 + j) 0)
+takenOut l (suc j) = set l (65 + j) (heldIn l j - consumeIn l j)
 
 -- a finished firing of N_i
 unfoldable pub firing : List ℕ → ℕ → List ℕ
@@ -49,15 +69,15 @@ firing l i = takenOut (putIn (counted l i) i) i
 -- the flow has the numbers of the chain and of the state
 pub record Shows (l : List ℕ) (c : Chain) (s : Run) : Type 0 where
   pub long : length l ≡ 83
-  pub many : getD l 82 0 ≡ c .n
+  pub many : sizeIn l ≡ c .n
   pub few : c .n ≤ 16
-  pub puts : (j : ℕ) → j < c .n → getD l j 0 ≡ rowOf c j .produce
-  pub waits : (j : ℕ) → j < c .n → getD l (16 + j) 0 ≡ rowOf c j .threshold
-  pub takes : (j : ℕ) → j < c .n → getD l (32 + j) 0 ≡ rowOf c j .consume
+  pub puts : (j : ℕ) → j < c .n → produceIn l j ≡ rowOf c j .produce
+  pub waits : (j : ℕ) → j < c .n → thresholdIn l j ≡ rowOf c j .threshold
+  pub takes : (j : ℕ) → j < c .n → consumeIn l j ≡ rowOf c j .consume
   pub wide : length (s .counts) ≡ 17
   pub deep : length (s .held) ≡ 16
-  pub counts : (j : ℕ) → j < 17 → getD l (48 + j) 0 ≡ countAt s j
-  pub holds : (j : ℕ) → j < 16 → getD l (65 + j) 0 ≡ heldAt s j
+  pub counts : (j : ℕ) → j < 17 → countIn l j ≡ countAt s j
+  pub holds : (j : ℕ) → j < 16 → heldIn l j ≡ heldAt s j
 
 counted-other : (l : List ℕ) (i x : ℕ) → x ≢ 48 + i → getD (counted l i) x 0 ≡ getD l x 0
 counted-other l i x ne = getD-set-other l (48 + i) x _ 0 ne
@@ -65,27 +85,27 @@ counted-other l i x ne = getD-set-other l (48 + i) x _ 0 ne
 module _ (l : List ℕ) (i : ℕ) where
   put-length : length (putIn l i) ≡ length l
   unfolding putIn
-  put-length = by (ltb i (getD l 82 0))
+  put-length = by (ltb i (sizeIn l))
     where
-      by : (b : Bool) → length (cond b (set l (65 + i) (getD l (65 + i) 0 + getD l i 0)) l) ≡ length l
+      by : (b : Bool) → length (cond b (set l (65 + i) (heldIn l i + produceIn l i)) l) ≡ length l
       by true = length-set l (65 + i) _
       by false = refl
 
   put-other : (x : ℕ) → x ≢ 65 + i → getD (putIn l i) x 0 ≡ getD l x 0
   unfolding putIn
-  put-other x ne = by (ltb i (getD l 82 0))
+  put-other x ne = by (ltb i (sizeIn l))
     where
-      by : (b : Bool) → getD (cond b (set l (65 + i) (getD l (65 + i) 0 + getD l i 0)) l) x 0 ≡ getD l x 0
+      by : (b : Bool) → getD (cond b (set l (65 + i) (heldIn l i + produceIn l i)) l) x 0 ≡ getD l x 0
       by true = getD-set-other l (65 + i) x _ 0 ne
       by false = refl
 
-  put-at : i < getD l 82 0 → 65 + i < length l → getD (putIn l i) (65 + i) 0 ≡ getD l (65 + i) 0 + getD l i 0
+  put-at : i < sizeIn l → 65 + i < length l → heldIn (putIn l i) i ≡ heldIn l i + produceIn l i
   unfolding putIn
-  put-at h m = simp (lt-ltb i (getD l 82 0) h) (getD-set-same l (65 + i) _ 0 m)
+  put-at h m = simp (lt-ltb i (sizeIn l) h) (getD-set-same l (65 + i) _ 0 m)
 
-  put-none : getD l 82 0 ≤ i → putIn l i ≡ l
+  put-none : sizeIn l ≤ i → putIn l i ≡ l
   unfolding putIn
-  put-none h = simp (le-ltb i (getD l 82 0) h)
+  put-none h = simp (le-ltb i (sizeIn l) h)
 
 take-length : (l : List ℕ) (i : ℕ) → length (takenOut l i) ≡ length l
 unfolding takenOut
@@ -107,7 +127,7 @@ module _ (l : List ℕ) (i : ℕ) where
   unfolding firing
   firing-other x a b e = take-other _ i x e ∙ put-other (counted l i) i x b ∙ counted-other l i x a
 
-  firing-count : i ≤ 16 → length l ≡ 83 → getD (firing l i) (48 + i) 0 ≡ getD l (48 + i) 0 + 1
+  firing-count : i ≤ 16 → length l ≡ 83 → countIn (firing l i) i ≡ countIn l i + 1
   unfolding firing
   firing-count f m = take-other _ i (48 + i) (λ j e z. omega arith) ∙ put-other (counted l i) i (48 + i) (λ e. omega arith) ∙ getD-set-same l (48 + i) _ 0 (omega arith)
 
@@ -126,33 +146,33 @@ module _ {l : List ℕ} {c : Chain} {s : Run} (x : Shows l c s) {i : ℕ} (k : F
   node = omega (arith, k .may .node, x .few)
 
   -- n is as it was, and so is each number of a row, which lies before the counts
-  size-kept : getD (firing l i) 82 0 ≡ c .n
+  size-kept : sizeIn (firing l i) ≡ c .n
   size-kept = firing-other l i 82 (λ e. omega (arith, node)) (λ e. omega (arith, node)) (λ j e z. omega (arith, node)) ∙ x .many
 
   row-kept : (y : ℕ) → y < 48 → getD (firing l i) y 0 ≡ getD l y 0
   row-kept y h = firing-other l i y (λ e. omega arith) (λ e. omega arith) (λ j e z. omega arith)
 
-  count-shown : (j : ℕ) → j < 17 → getD (firing l i) (48 + j) 0 ≡ countAt (fired c s i) j
+  count-shown : (j : ℕ) → j < 17 → countIn (firing l i) j ≡ countAt (fired c s i) j
   count-shown j h = by-cases (ℕ-discrete j i)
       (λ e. rw e (firing-count l i node (x .long) ∙ ap (λ (n : ℕ). n + 1) (x .counts i (omega (arith, node))) ∙ sym (count-fired c s i (omega (arith, x .wide, node)))))
       (λ ne. firing-other l i (48 + j) (λ e. ne (omega arith)) (λ e. omega arith) (λ m e z. omega (arith, node)) ∙ x .counts j h ∙ sym (count-other c s i j ne))
 
-  output-shown : i < c .n → getD (firing l i) (65 + i) 0 ≡ heldAt (fired c s i) i
+  output-shown : i < c .n → heldIn (firing l i) i ≡ heldAt (fired c s i) i
   unfolding firing
   output-shown l′ =
-      let n : getD (counted l i) 82 0 ≡ c .n = counted-other l i 82 (λ e. omega (arith, node)) ∙ x .many in
-      let a : getD (counted l i) (65 + i) 0 ≡ heldAt s i = counted-other l i (65 + i) (λ e. omega arith) ∙ x .holds i (omega (arith, x .few)) in
-      let b : getD (counted l i) i 0 ≡ rowOf c i .produce = counted-other l i i (λ e. omega arith) ∙ x .puts i l′ in
-      let put = put-at (counted l i) i (omega arith) (omega (arith, x .long, x .few, length-set l (48 + i) (getD l (48 + i) 0 + 1))) in
+      let n : sizeIn (counted l i) ≡ c .n = counted-other l i 82 (λ e. omega (arith, node)) ∙ x .many in
+      let a : heldIn (counted l i) i ≡ heldAt s i = counted-other l i (65 + i) (λ e. omega arith) ∙ x .holds i (omega (arith, x .few)) in
+      let b : produceIn (counted l i) i ≡ rowOf c i .produce = counted-other l i i (λ e. omega arith) ∙ x .puts i l′ in
+      let put = put-at (counted l i) i (omega arith) (omega (arith, x .long, x .few, length-set l (48 + i) (countIn l i + 1))) in
       let kept = take-other (putIn (counted l i) i) i (65 + i) (λ j e z. omega arith) in
       omega (arith, kept, put, a, b, held-output c s i l′ (omega (arith, x .deep, x .few)))
 
-  sink-shown : c .n ≤ i → i < 16 → getD (firing l i) (65 + i) 0 ≡ heldAt (fired c s i) i
+  sink-shown : c .n ≤ i → i < 16 → heldIn (firing l i) i ≡ heldAt (fired c s i) i
   unfolding firing
   sink-shown l′ h =
-      let n : getD (counted l i) 82 0 ≡ c .n = counted-other l i 82 (λ e. omega (arith, node)) ∙ x .many in
+      let n : sizeIn (counted l i) ≡ c .n = counted-other l i 82 (λ e. omega (arith, node)) ∙ x .many in
       take-other (putIn (counted l i) i) i (65 + i) (λ j e z. omega arith)
-      ∙ ap (λ (m : List ℕ). getD m (65 + i) 0) (put-none (counted l i) i (omega arith))
+      ∙ ap (λ (m : List ℕ). heldIn m i) (put-none (counted l i) i (omega arith))
       ∙ counted-other l i (65 + i) (λ e. omega arith) ∙ x .holds i h ∙ sym (held-sink c s i i l′ (λ e. omega arith))
 
 -- the input queue, of a node that has one: the flow has its contents and its c when they are taken, and there is enough
@@ -160,22 +180,22 @@ module _ {l : List ℕ} {c : Chain} {s : Run} (x : Shows l c s) (j : ℕ) (k : F
   abbrev half : List ℕ
   half = putIn (counted l (suc j)) (suc j)
 
-  input-held : getD half (65 + j) 0 ≡ heldAt s j
+  input-held : heldIn half j ≡ heldAt s j
   input-held =
       put-other (counted l (suc j)) (suc j) (65 + j) (λ e. omega arith) ∙ counted-other l (suc j) (65 + j) (λ e. omega (arith, x .few, k .may .node)) ∙ x .holds j (omega (arith, x .few, k .may .node))
 
-  input-taken : getD half (32 + j) 0 ≡ rowOf c j .consume
+  input-taken : consumeIn half j ≡ rowOf c j .consume
   input-taken =
       put-other (counted l (suc j)) (suc j) (32 + j) (λ e. omega (arith, x .few, k .may .node)) ∙ counted-other l (suc j) (32 + j) (λ e. omega (arith, x .few, k .may .node)) ∙ x .takes j (k .may .node)
 
   input-enough : rowOf c j .consume ≤ heldAt s j
   input-enough = over-enough (k .chain .chain) s j (k .may .node) (k .may .over)
 
-  input-shown : getD (firing l (suc j)) (65 + j) 0 ≡ heldAt (fired c s (suc j)) j
+  input-shown : heldIn (firing l (suc j)) j ≡ heldAt (fired c s (suc j)) j
   unfolding firing takenOut
   input-shown =
       let wide : 65 + j < length half = omega (arith, put-length (counted l (suc j)) (suc j), length-set l (48 + suc j) (getD l (48 + suc j) 0 + 1), x .long, x .few, k .may .node) in
-      omega (arith, getD-set-same half (65 + j) (getD half (65 + j) 0 - getD half (32 + j) 0) 0 wide, input-held, input-taken, held-input c s j (omega (arith, x .deep, x .few, k .may .node)) input-enough)
+      omega (arith, getD-set-same half (65 + j) (heldIn half j - consumeIn half j) 0 wide, input-held, input-taken, held-input c s j (omega (arith, x .deep, x .few, k .may .node)) input-enough)
 
 pub shows-fired : {l : List ℕ} {c : Chain} {s : Run} (x : Shows l c s) {i : ℕ} (k : Firing c s i) → Shows (firing l i) c (fired c s i)
 shows-fired {l} {c} {s} x {i} k = record {
@@ -191,33 +211,34 @@ shows-fired {l} {c} {s} x {i} k = record {
   holds = held-shown;
 }
   where
-    held-shown : (j : ℕ) → j < 16 → getD (firing l i) (65 + j) 0 ≡ heldAt (fired c s i) j
+    held-shown : (j : ℕ) → j < 16 → heldIn (firing l i) j ≡ heldAt (fired c s i) j
     held-shown j h = by-cases (ℕ-discrete j i)
         (λ e. rw e (by-cases (decLt i (c .n)) (output-shown x k) (λ n. sink-shown x k (omega arith) (omega arith))))
         (λ ne. by-cases (ℕ-discrete (suc j) i)
-        (λ e. subst (λ (m : ℕ). getD (firing l m) (65 + j) 0 ≡ heldAt (fired c s m) j) e (input-shown x j (subst (Firing c s) (sym e) k)))
+        (λ e. subst (λ (m : ℕ). heldIn (firing l m) j ≡ heldAt (fired c s m) j) e (input-shown x j (subst (Firing c s) (sym e) k)))
         (λ ne′. firing-other l i (65 + j) (λ e. omega (arith, node x k)) (λ e. ne (omega arith)) (λ m e z. ne′ (omega arith)) ∙ x .holds j h ∙ sym (held-other c s i j ne ne′)))
 
--- what the code of its steps asks
+-- what the code of the production asks: the sum fits
 pub record Puts (l : List ℕ) (i : ℕ) : Type 0 where
-  pub few : getD l 82 0 ≤ 16
-  pub fits : i < getD l 82 0 → getD l (65 + i) 0 + getD l i 0 < 2 ^ 32
+  pub few : sizeIn l ≤ 16
+  pub fits : i < sizeIn l → heldIn l i + produceIn l i < 2 ^ 32
 
+-- what the code of the removal asks: there is enough to take
 pub record Takes (l : List ℕ) (i : ℕ) : Type 0 where
   pub node : i ≤ 16
-  pub enough : (j : ℕ) → i ≡ suc j → getD l (32 + j) 0 ≤ getD l (65 + j) 0
+  pub enough : (j : ℕ) → i ≡ suc j → consumeIn l j ≤ heldIn l j
 
 -- the numbers of a firing fit
 module _ {l : List ℕ} {i : ℕ} (r : Ready l i) where
   pub ready-node : i ≤ 16
   ready-node = node (r .shows) (r .firing)
 
-  pub ready-count : getD l (48 + i) 0 < limit
+  pub ready-count : countIn l i < limit
   ready-count = let n : countAt (r .run) i ≢ limit = r .firing .may .countable in omega (arith, r .word, r .shows .counts i (omega (arith, ready-node)))
 
   pub ready-puts : Puts (counted l i) i
   ready-puts =
-      let n : getD (counted l i) 82 0 ≡ r .chain .n = counted-other l i 82 (λ e. omega (arith, ready-node)) ∙ r .shows .many in
+      let n : sizeIn (counted l i) ≡ r .chain .n = counted-other l i 82 (λ e. omega (arith, ready-node)) ∙ r .shows .many in
       record {
         few = omega (arith, r .shows .few);
         fits = λ h.
@@ -230,8 +251,8 @@ module _ {l : List ℕ} {i : ℕ} (r : Ready l i) where
   pub ready-takes : Takes (putIn (counted l i) i) i
   ready-takes = record { node = ready-node; enough = enough }
     where
-      at : (j : ℕ) → Firing (r .chain) (r .run) (suc j) → getD (putIn (counted l (suc j)) (suc j)) (32 + j) 0 ≤ getD (putIn (counted l (suc j)) (suc j)) (65 + j) 0
+      at : (j : ℕ) → Firing (r .chain) (r .run) (suc j) → consumeIn (putIn (counted l (suc j)) (suc j)) j ≤ heldIn (putIn (counted l (suc j)) (suc j)) j
       at j k = omega (arith, input-held (r .shows) j k, input-taken (r .shows) j k, input-enough (r .shows) j k)
 
-      enough : (j : ℕ) → i ≡ suc j → getD (putIn (counted l i) i) (32 + j) 0 ≤ getD (putIn (counted l i) i) (65 + j) 0
-      enough j e = subst (λ (m : ℕ). getD (putIn (counted l m) m) (32 + j) 0 ≤ getD (putIn (counted l m) m) (65 + j) 0) (sym e) (at j (subst (Firing (r .chain) (r .run)) e (r .firing)))
+      enough : (j : ℕ) → i ≡ suc j → consumeIn (putIn (counted l i) i) j ≤ heldIn (putIn (counted l i) i) j
+      enough j e = subst (λ (m : ℕ). consumeIn (putIn (counted l m) m) j ≤ heldIn (putIn (counted l m) m) j) (sym e) (at j (subst (Firing (r .chain) (r .run)) e (r .firing)))

@@ -20,16 +20,16 @@ use Rattle.chain.specs.Sound.{Sound}
 use Rattle.chain.specs.declared.Chain.{Chain}
 use Rattle.state.specs.State.{freshRun, fresh-empty, emptyRun, same-run}
 use Rattle.state.specs.declared.Run.{Run}
-use Rattle.flow.specs.Flow.{Shows}
+use Rattle.flow.specs.Flow.{produceIn, thresholdIn, consumeIn, countIn, heldIn, sizeIn, Shows}
 
 -- the first i rows are filled
 pub record Filled (c : Chain) (i : ℕ) (l : List ℕ) : Type 0 where
   pub reach : i ≤ c .n
   pub long : length l ≡ 83
-  pub many : getD l 82 0 ≡ c .n
-  pub puts : (j : ℕ) → j < i → getD l j 0 ≡ rowOf c j .produce
-  pub waits : (j : ℕ) → j < i → getD l (16 + j) 0 ≡ rowOf c j .threshold
-  pub takes : (j : ℕ) → j < i → getD l (32 + j) 0 ≡ rowOf c j .consume
+  pub many : sizeIn l ≡ c .n
+  pub puts : (j : ℕ) → j < i → produceIn l j ≡ rowOf c j .produce
+  pub waits : (j : ℕ) → j < i → thresholdIn l j ≡ rowOf c j .threshold
+  pub takes : (j : ℕ) → j < i → consumeIn l j ≡ rowOf c j .consume
   pub rest : (y : ℕ) → 48 ≤ y → y < 82 → getD l y 0 ≡ 0
 
 zeros : (N y z : ℕ) → y < N → getD (replicate N z) y z ≡ z
@@ -77,10 +77,10 @@ module _ {c : Chain} {i : ℕ} {l : List ℕ} (few : c .n ≤ 16) (f : Filled c 
     puts = row {P = λ j. getD three j 0 ≡ rowOf c j .produce}
         (getD-set-other two (32 + i) i _ 0 (λ e. omega arith) ∙ getD-set-other one (16 + i) i _ 0 (λ e. omega arith) ∙ getD-set-same l i _ 0 (omega (arith, f .long)))
         (λ j n. other j (λ e. omega arith) (λ e. omega arith) (λ e. omega arith) ∙ f .puts j n);
-    waits = row {P = λ j. getD three (16 + j) 0 ≡ rowOf c j .threshold}
+    waits = row {P = λ j. thresholdIn three j ≡ rowOf c j .threshold}
         (getD-set-other two (32 + i) (16 + i) _ 0 (λ e. omega arith) ∙ getD-set-same one (16 + i) _ 0 (omega (arith, long-one)))
         (λ j n. other (16 + j) (λ e. omega arith) (λ e. omega arith) (λ e. omega arith) ∙ f .waits j n);
-    takes = row {P = λ j. getD three (32 + j) 0 ≡ rowOf c j .consume}
+    takes = row {P = λ j. consumeIn three j ≡ rowOf c j .consume}
         (getD-set-same two (32 + i) _ 0 (omega (arith, long-two)))
         (λ j n. other (32 + j) (λ e. omega arith) (λ e. omega arith) (λ e. omega arith) ∙ f .takes j n);
     rest = λ y a b. other y (λ e. omega arith) (λ e. omega arith) (λ e. omega arith) ∙ f .rest y a b;
@@ -104,48 +104,48 @@ filled-shows {c} {i} {l} s e f = rw (← fresh-empty c) (record {
 -- the state that a flow has
 unfoldable pub shown : List ℕ → Run
 unfolding tab
-shown l = record { clock = 0; counts = tab 17 (λ j. getD l (48 + j) 0); held = tab 16 (λ j. getD l (65 + j) 0); done = replicate 16 0 }
+shown l = record { clock = 0; counts = tab 17 (λ j. countIn l j); held = tab 16 (λ j. heldIn l j); done = replicate 16 0 }
 
 pub shown-is : {l : List ℕ} {c : Chain} {s : Run} → Shows l c s → s .clock ≡ 0 → s .done ≡ replicate 16 0 → shown l ≡ s
 unfolding shown
 shown-is {l} {c} {s} x k d = sym (same-run k
-    (is-tab 17 (λ j. getD l (48 + j) 0) 0 (s .counts) (x .wide) (λ j h. sym (x .counts j h)))
-    (is-tab 16 (λ j. getD l (65 + j) 0) 0 (s .held) (x .deep) (λ j h. sym (x .holds j h)))
+    (is-tab 17 (λ j. countIn l j) 0 (s .counts) (x .wide) (λ j h. sym (x .counts j h)))
+    (is-tab 16 (λ j. heldIn l j) 0 (s .held) (x .deep) (λ j h. sym (x .holds j h)))
     d)
 
 -- a state of which the first i slots are read out of the flow
 pub record Part (l : List ℕ) (i : ℕ) (r : Run) : Type 0 where
   pub reach : i ≤ 16
   pub clock : r .clock ≡ 0
-  pub counts : r .counts ≡ slots (λ j. getD l (48 + j) 0) 0 17 i
-  pub held : r .held ≡ slots (λ j. getD l (65 + j) 0) 0 16 i
+  pub counts : r .counts ≡ slots (λ j. countIn l j) 0 17 i
+  pub held : r .held ≡ slots (λ j. heldIn l j) 0 16 i
   pub done : r .done ≡ replicate 16 0
 
 pub part-none : (l : List ℕ) → Part l 0 emptyRun
 part-none l = record {
   reach = omega arith;
   clock = refl;
-  counts = slots-none (λ j. getD l (48 + j) 0) 0 17;
-  held = slots-none (λ j. getD l (65 + j) 0) 0 16;
+  counts = slots-none (λ j. countIn l j) 0 17;
+  held = slots-none (λ j. heldIn l j) 0 16;
   done = refl;
 }
 
 module _ {l : List ℕ} {i : ℕ} {r : Run} (p : Part l i r) where
-  pub part-more : i < 16 → Part l (i + 1) (record { clock = r .clock; counts = set (r .counts) i (getD l (48 + i) 0); held = set (r .held) i (getD l (65 + i) 0); done = r .done })
+  pub part-more : i < 16 → Part l (i + 1) (record { clock = r .clock; counts = set (r .counts) i (countIn l i); held = set (r .held) i (heldIn l i); done = r .done })
   part-more h = record {
     reach = omega arith;
     clock = p .clock;
-    counts = slots-more (λ j. getD l (48 + j) 0) 0 17 i (r .counts) (getD l (48 + i) 0) (omega arith) (p .counts) refl;
-    held = slots-more (λ j. getD l (65 + j) 0) 0 16 i (r .held) (getD l (65 + i) 0) h (p .held) refl;
+    counts = slots-more (λ j. countIn l j) 0 17 i (r .counts) (countIn l i) (omega arith) (p .counts) refl;
+    held = slots-more (λ j. heldIn l j) 0 16 i (r .held) (heldIn l i) h (p .held) refl;
     done = p .done;
   }
 
   -- the sink of 16 queues has a count and no queue of its own
-  pub part-shown : 16 ≤ i → record { clock = r .clock; counts = set (r .counts) 16 (getD l (48 + 16) 0); held = r .held; done = r .done } ≡ shown l
+  pub part-shown : 16 ≤ i → record { clock = r .clock; counts = set (r .counts) 16 (countIn l 16); held = r .held; done = r .done } ≡ shown l
   unfolding shown
   part-shown h =
       let e : i ≡ 16 = omega (arith, p .reach) in
       same-run (p .clock)
-      (slots-more (λ j. getD l (48 + j) 0) 0 17 16 (r .counts) (getD l (48 + 16) 0) (omega arith) (subst (λ (m : ℕ). r .counts ≡ slots (λ j. getD l (48 + j) 0) 0 17 m) e (p .counts)) refl ∙ slots-whole (λ j. getD l (48 + j) 0) 0 17)
-      (subst (λ (m : ℕ). r .held ≡ slots (λ j. getD l (65 + j) 0) 0 16 m) e (p .held) ∙ slots-whole (λ j. getD l (65 + j) 0) 0 16)
+      (slots-more (λ j. countIn l j) 0 17 16 (r .counts) (countIn l 16) (omega arith) (subst (λ (m : ℕ). r .counts ≡ slots (λ j. countIn l j) 0 17 m) e (p .counts)) refl ∙ slots-whole (λ j. countIn l j) 0 17)
+      (subst (λ (m : ℕ). r .held ≡ slots (λ j. heldIn l j) 0 16 m) e (p .held) ∙ slots-whole (λ j. heldIn l j) 0 16)
       (p .done)

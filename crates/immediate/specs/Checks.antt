@@ -6,6 +6,7 @@
 --   immediateRefusal c k, immediateAnswer c k
 --                              what it is refused with, and the whole answer: the state after its schedule, from a fresh start
 --   FirstTooLong               9 in words
+--   short-silent, long-says    9 of one node: silent within the limit, and speaking past it
 --   length-exact, -silent, -only
 --                              9 speaks exactly under its condition, is silent exactly elsewhere, and has its own number
 --   immediate-parts            the checks of a run, then 9
@@ -34,7 +35,7 @@ use Rattle.history.specs.History.{after}
 use Rattle.schedule.specs.Counts.{F}
 use Rattle.schedule.specs.Schedule.{schedule}
 
--- "1,000,000 is allowed"
+-- a count may reach it, and not pass it
 abbrev pub most : ℕ
 most = 1000000
 
@@ -47,9 +48,11 @@ unfoldable pub lengthCheck : Chain → ℕ → Refusal
 unfolding first tab F
 lengthCheck c k = first (tab (suc (c .n)) (lengthTest c k))
 
+-- the checks of every run, then 9
 abbrev pub immediateChecks : Chain → ℕ → List Refusal
 immediateChecks c k = runChecks c ++ (lengthCheck c k ∷ [])
 
+-- what an immediate run is refused with
 unfoldable pub immediateRefusal : Chain → ℕ → Refusal
 unfolding first runRefusal lengthCheck
 immediateRefusal c k = first (immediateChecks c k)

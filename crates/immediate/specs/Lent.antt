@@ -1,10 +1,12 @@
 -- Fire and settle over a lent flow: what they ask and give of the state that it shows.
 --   Fire l i, Settle l q     the flow shows a state in which the call may be made
+--   Showing P c l            the flow shows a state of which P holds
 --   FireGives l i m, SettleGives l q m
 --                            of every such state that l showed, m shows the one after it
 --   Going l q m              what holds of m before each firing of queue q's consumer
 --   fire-ready, -size, -settles, -ends, -ends-sink, settle-size, going-none, -size, -fire, -more, -less, -done
 --                            the steps of the two calls
+--   Source c m s             only the source may fire, and has fired m times
 --   Driven k c m l           the flow l shows a calm state after m of k source firings
 --   Driving k l m u          of every fresh start that l shows, u shows it driven so far
 --   driving-none, -fire, -more, -done
@@ -15,7 +17,6 @@ use Prim.Native.Nat.{ℕ, suc, _+_, _≤_, _<_}
 use native.Mathlib.Nat.{le-antisymm}
 use native.Mathlib.Numerals.{add-one}
 use native.Mathlib.Omega.{arith}
-use lib.ListN.{getD}
 use Rattle.chain.specs.Record.{rowOf}
 use Rattle.chain.specs.Sound.{Sound}
 use Rattle.chain.specs.declared.Chain.{Chain}
@@ -26,7 +27,7 @@ use Rattle.history.specs.History.{after}
 use Rattle.schedule.specs.Counts.{F}
 use Rattle.schedule.specs.Reached.{Reached, Calm, reached-fresh, fresh-calm, one-state}
 use Rattle.schedule.specs.Schedule.{schedule, fresh-tight, ends, reached, counts-are-F}
-use Rattle.flow.specs.Flow.{firing, Shows, Ready, shows-fired}
+use Rattle.flow.specs.Flow.{thresholdIn, heldIn, sizeIn, firing, Shows, Ready, shows-fired}
 use Rattle.flow.specs.Shown.{shown, shown-is}
 use Rattle.immediate.specs.Steps.{Bounds, Held, FireAsk, FireDone, SettleAsk, SettleDone, Settling, fire-word, fire-firing, fire-settle, fire-done, fire-sink, settle-none, settle-fire, settle-more, settle-less, settle-done}
 
@@ -52,12 +53,15 @@ pub record Showing (P : Run → Type 0) (c : Chain) (l : List ℕ) : Type 0 wher
   pub shows : Shows l c run
   pub is : P run
 
+-- of every state in which N_i may fire that l shows, m shows the one after it
 pub record FireGives (l : List ℕ) (i : ℕ) (m : List ℕ) : Type 0 where
   pub gives : (k : ℕ) (c : Chain) (s : Run) → Shows l c s → FireAsk k c s i → Showing (FireDone c s i) c m
 
+-- the same of a queue that may be settled
 pub record SettleGives (l : List ℕ) (q : ℕ) (m : List ℕ) : Type 0 where
   pub gives : (k : ℕ) (c : Chain) (s : Run) → Shows l c s → SettleAsk k c s q → Showing (SettleDone c s q) c m
 
+-- and on the way, before each firing of the consumer
 pub record Going (l : List ℕ) (q : ℕ) (m : List ℕ) : Type 0 where
   pub gives : (k : ℕ) (c : Chain) (s : Run) → Shows l c s → SettleAsk k c s q → Showing (Settling c s q) c m
 
@@ -69,13 +73,13 @@ module _ {l : List ℕ} {i : ℕ} (f : Fire l i) where
   next : Shows (firing l i) (f .chain) (fired (f .chain) (f .run) i)
   next = shows-fired (f .shows) (fire-firing (f .ask))
 
-  pub fire-size : (getD (firing l i) 82 0 ≡ getD l 82 0) × (getD l 82 0 ≤ 16)
+  pub fire-size : (sizeIn (firing l i) ≡ sizeIn l) × (sizeIn l ≤ 16)
   fire-size = (next .many ∙ sym (f .shows .many), omega (arith, f .shows .many, f .shows .few))
 
-  pub fire-settles : i < getD (firing l i) 82 0 → Settle (firing l i) i
+  pub fire-settles : i < sizeIn (firing l i) → Settle (firing l i) i
   fire-settles h = record { runs = f .runs; chain = f .chain; run = fired (f .chain) (f .run) i; shows = next; ask = fire-settle (f .ask) (omega (arith, next .many)) }
 
-pub fire-ends : {l m : List ℕ} {i : ℕ} → i < getD (firing l i) 82 0 → SettleGives (firing l i) i m → FireGives l i m
+pub fire-ends : {l m : List ℕ} {i : ℕ} → i < sizeIn (firing l i) → SettleGives (firing l i) i m → FireGives l i m
 fire-ends {l} {m} {i} h g = record {
   gives = λ k c s x a.
       let y = shows-fired x (fire-firing a) in
@@ -83,31 +87,31 @@ fire-ends {l} {m} {i} h g = record {
       record { run = z .run; shows = z .shows; is = fire-done a (z .is) };
 }
 
-pub fire-ends-sink : {l : List ℕ} {i : ℕ} → getD (firing l i) 82 0 ≤ i → FireGives l i (firing l i)
+pub fire-ends-sink : {l : List ℕ} {i : ℕ} → sizeIn (firing l i) ≤ i → FireGives l i (firing l i)
 fire-ends-sink {l} {i} h = record {
   gives = λ k c s x a.
       let y = shows-fired x (fire-firing a) in
       record { run = fired c s i; shows = y; is = fire-sink a (omega (arith, y .many)) };
 }
 
-pub settle-size : {l : List ℕ} {q : ℕ} → Settle l q → (q < getD l 82 0) × (getD l 82 0 ≤ 16)
+pub settle-size : {l : List ℕ} {q : ℕ} → Settle l q → (q < sizeIn l) × (sizeIn l ≤ 16)
 settle-size a = (omega (arith, a .shows .many, a .ask .queue), omega (arith, a .shows .many, a .shows .few))
 
 pub going-none : {l : List ℕ} {q : ℕ} → Going l q l
 going-none = record { gives = λ k c s x a. record { run = s; shows = x; is = settle-none a } }
 
 module _ {l m : List ℕ} {q : ℕ} (g : Going l q m) where
-  pub going-size : Settle l q → getD m 82 0 ≡ getD l 82 0
+  pub going-size : Settle l q → sizeIn m ≡ sizeIn l
   going-size a = g .gives (a .runs) (a .chain) (a .run) (a .shows) (a .ask) .shows .many ∙ sym (a .shows .many)
 
-  pub going-done : getD m (65 + q) 0 < getD m (16 + q) 0 → SettleGives l q m
+  pub going-done : heldIn m q < thresholdIn m q → SettleGives l q m
   going-done h = record {
     gives = λ k c s x a.
         let y = g .gives k c s x a in
         record { run = y .run; shows = y .shows; is = settle-done a (y .is) (omega (arith, h, y .shows .holds q (omega (arith, x .few, a .queue)), y .shows .waits q (a .queue))) };
   }
 
-  module _ (h : getD m (16 + q) 0 ≤ getD m (65 + q) 0) where
+  module _ (h : thresholdIn m q ≤ heldIn m q) where
     over : (k : ℕ) (c : Chain) (s r : Run) → SettleAsk k c s q → Shows m c r → rowOf c q .threshold ≤ heldAt r q
     over k c s r a y = omega (arith, h, y .holds q (omega (arith, y .few, a .queue)), y .waits q (a .queue))
 
@@ -134,7 +138,7 @@ module _ {l m : List ℕ} {q : ℕ} (g : Going l q m) where
             record { run = z .run; shows = z .shows; is = settle-more a (y .is) (z .is) };
       }
 
-      pub going-less : Settle l q → getD u (65 + q) 0 < getD m (65 + q) 0
+      pub going-less : Settle l q → heldIn u q < heldIn m q
       going-less a =
           let y = g .gives (a .runs) (a .chain) (a .run) (a .shows) (a .ask) in
           let z = fires (a .runs) (a .chain) (a .run) (y .run) (a .ask) (y .shows) (y .is) in
@@ -147,10 +151,12 @@ pub record Source (c : Chain) (m : ℕ) (s : Run) : Type 0 where
   pub calm : Calm c s 0
   pub count : countAt s 0 ≡ m
 
+-- the flow shows such a state, m being at most k
 pub record Driven (k : ℕ) (c : Chain) (m : ℕ) (l : List ℕ) : Type 0 where
   pub most : m ≤ k
   pub state : Showing (Source c m) c l
 
+-- whatever fresh start l shows
 pub record Driving (k : ℕ) (l : List ℕ) (m : ℕ) (u : List ℕ) : Type 0 where
   pub gives : (c : Chain) → Bounds k c → Shows l c (freshRun c) → Driven k c m u
 

@@ -25,6 +25,7 @@ pub record Few (q : Queue) (m : ℕ) : Type 0 where
   pub sound : SoundRow q
   pub few : m ≤ most
 
+-- f is N_i's count, and no count before it passes the limit
 pub record Passing (c : Chain) (k f i : ℕ) : Type 0 where
   pub reach : i ≤ c .n
   pub is : f ≡ F c k i

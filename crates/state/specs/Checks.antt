@@ -17,8 +17,11 @@
 --                              each check speaks exactly under its condition
 --   state-, count-, over-, room-silent
 --                              and is silent exactly elsewhere
+--   steady-silent, broken-says 17 of one queue: silent where it has no reason, and speaking where it has one
 --   state-, count-, over-, room-only
 --                              and speaks with its own number
+--   Analysed c a, Ruled q k, ruled
+--                              what the code is handed: a sound chain and its analysis, a sound queue and its capacity, which the analysis has
 use mathlib.Core.Path.{_≡_, refl, ap, _∙_}
 use mathlib.Core.Bool.{Bool, true, false, not, _||_, _&&_}
 use mathlib.Core.Logic.{_↔_, _≢_, _⊎_, inl, inr, ⊎-elim, by-cases, Iff·trans, Iff·and, Iff·rfl}
@@ -73,7 +76,7 @@ abbrev pub over : Chain → Run → ℕ → Bool
 over c s zero = true
 over c s (suc j) = leb (rowOf c j .threshold) (heldAt s j)
 
--- "no such node, or node not over threshold"
+-- "no such node, .. or node not over threshold"
 abbrev pub idle : Chain → Run → ℕ → Bool
 idle c s i = ltb (c .n) i || not (over c s i)
 
@@ -179,7 +182,7 @@ module _ (c : Chain) (s : Run) where
   pub room-only : (i : ℕ) → Only 12 (roomCheck c s i)
   room-only i = only-test 12 i (cramped c s i)
 
--- what the code of these checks is handed: an accepted chain and its analysis
+-- what the code of these checks is handed: a sound chain and its analysis
 pub record Analysed (c : Chain) (a : Analysis) : Type 0 where
   pub chain : Sound c
   pub sizes : a ≡ analysisOf c

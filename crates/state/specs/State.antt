@@ -7,6 +7,7 @@
 --   zeros                    every slot of a list of zeros, and past its end, is 0
 --   fresh-count, fresh-held  then no node has fired, and each queue holds what it starts with
 --   answered r s t           the answer of a call: the refusal r with the state s, or the state t where r is silent
+--   refusedWith N L s        the answer of a call that is refused with number N and place L
 --   answered-refused, -fine  its two cases
 --   same-run                 states of equal parts are equal
 use mathlib.Core.Path.{_≡_, refl, ap}
@@ -68,7 +69,7 @@ pub fresh-held : {c : Chain} → Sound c → (j : ℕ) → j < c .n → heldAt (
 unfolding freshRun
 fresh-held {c} k j l = slot-used (λ i. start (rowOf c i)) 0 16 (c .n) j 0 (omega (arith, k .count .1)) l
 
--- "a refusal gives number and place, run state as before": s is what is given back then, t what a call that is not refused makes
+-- "a refusal gives number and place, .. run state as before": s is what is given back then, t what a call that is not refused makes
 unfoldable pub answered : Refusal → Run → Run → RunAnswer
 answered r s t = record { number = r .number; place = r .place; run = cond (eqb (r .number) 0) t s }
 

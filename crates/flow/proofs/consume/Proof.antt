@@ -3,13 +3,13 @@ use mathlib.Core.Path.{_≡_, refl}
 use mathlib.Core.List.{List}
 use Prim.Native.Nat.{ℕ, zero, suc, _+_, _-_, _≤_, _<_}
 use native.Mathlib.Omega.{arith}
-use lib.ListN.{getD, set}
-use Rattle.flow.specs.Flow.{takenOut}
+use lib.ListN.{set}
+use Rattle.flow.specs.Flow.{consumeIn, heldIn, takenOut}
 use borrow.Author.Needs.{needs}
 use Rattle.flow.proofs.consume.Statement.{statement}
 use Rattle.flow.proofs.consume.Tie as tie
 
-taken : (l : List ℕ) (i : ℕ) → 0 < i → set l (65 + (i - 1)) (getD l (65 + (i - 1)) 0 - getD l (32 + (i - 1)) 0) ≡ takenOut l i
+taken : (l : List ℕ) (i : ℕ) → 0 < i → set l (65 + (i - 1)) (heldIn l (i - 1) - consumeIn l (i - 1)) ≡ takenOut l i
 unfolding takenOut
 taken l zero h = absurd (omega arith)
 taken l (suc j) h = let e : suc j - 1 ≡ j = omega arith in rw e

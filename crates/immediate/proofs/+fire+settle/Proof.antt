@@ -3,9 +3,9 @@
 use Prim.Native.Nat.{ℕ, _<_, _+_, _-_, _*_}
 use borrow.Fn.Kinds.{In}
 use borrow.Fn.PlainCycle.{Measures, is, falls, and}
-use lib.ListN.{getD}
 use native.Mathlib.Omega.{arith}
 use borrow.Author.Needs.{needs}
+use Rattle.flow.specs.Flow.{heldIn, sizeIn}
 use Rattle.immediate.specs.Lent.{fire-ready, fire-size, fire-settles, fire-ends, fire-ends-sink, Going, going-none, going-done, going-fire, going-more, going-less, settle-size, going-size}
 use Rattle.immediate.proofs.fire.Reads as fire
 use Rattle.immediate.proofs.fire.Kinds as fire-kinds
@@ -18,10 +18,10 @@ use Rattle.immediate.proofs.+fire+settle.{statement}
 use Rattle.immediate.proofs.+fire+settle.Tie.{close}
 
 abbrev μ-fire : Measures 1 fire-kinds.ps ℕ
-μ-fire κs a = 2 * (getD (a .0 .now) 82 0 - a .1 .0)
+μ-fire κs a = 2 * (sizeIn (a .0 .now) - a .1 .0)
 
 abbrev μ-settle : Measures 1 settle-kinds.ps ℕ
-μ-settle κs a = 2 * (getD (a .0 .now) 82 0 - a .1 .0) - 1
+μ-settle κs a = 2 * (sizeIn (a .0 .now) - a .1 .0) - 1
 
 abbrev fire-at : ℕ → In 1 fire-kinds.ps
 fire-at t = and 1 fire-kinds.ps (is 1 fire-kinds.ps μ-fire t) fire.Pre
@@ -93,7 +93,7 @@ abbrev settle-Inv-loop : settle-lts.InvT-loop
 settle-Inv-loop flow₀ q flow = Going flow₀ q flow
 
 abbrev settle-μ-loop : settle-lts.MeasureT-loop
-settle-μ-loop flow₀ q flow = getD flow (65 + q) 0
+settle-μ-loop flow₀ q flow = heldIn flow q
 
 settle-loop-holds :
     (t : ℕ) →
