@@ -6,22 +6,17 @@
 --   fires-reach                 it is k + 1 or more exactly from τ + c * k tokens on
 --   fires-mono, fires-shift     more tokens give no fewer firings; c * k more tokens, k more firings
 --   fires-settles               so many firings leave less than τ
---   fires-bound                 there are no more firings than tokens
 --   fires-unique, fires-is      it is the only count that leaves less than τ and whose last firing found τ
---   takes-fires                 so it is the consumer's count of each allowed list of events that ends below τ
---   takes-most                  and an allowed list has no more takes
 use mathlib.Core.Path.{_≡_, sym, ap}
 use mathlib.Core.Bool.{cond}
-use mathlib.Core.List.{List}
 use mathlib.Core.Logic.{_↔_}
 use Prim.Native.Nat.{ℕ, zero, suc, _+_, _-_, _*_, _/_, _≤_, _<_}
-use native.Mathlib.Nat.{lt-of-not-le, le-div-iff-mul-le, div-le-self}
+use native.Mathlib.Nat.{lt-of-not-le, le-div-iff-mul-le}
 use native.Mathlib.Decide.{decLe}
 use native.Mathlib.Omega.{arith}
 use lib.Dec.{ltb}
 use borrow.Author.Tests.{lt-ltb, le-ltb}
 use Rattle.arith.specs.Division.{floor-above, floor-unique, floor-mono, floor-shift}
-use Rattle.events.specs.Events.{Event, puts, takes, contents, Allowed, balance, owed}
 
 -- "F_(i+1) is 0 while p×F_i is below τ, else (p×F_i − τ)/c rounded down, plus 1", of m tokens for p×F_i
 unfoldable pub fires : ℕ → ℕ → ℕ → ℕ
@@ -74,13 +69,6 @@ fires-settles τ c m hc = by (decLe τ m)
     by (yes h) = omega (arith, ap (λ (n : ℕ). c * n) (fires-from τ c m h), floor-above (m - τ) c hc)
     by (no f) = omega (arith, lt-of-not-le f)
 
-pub fires-bound : (τ c m : ℕ) → 0 < τ → fires τ c m ≤ m
-fires-bound τ c m ht = by (decLe τ m)
-  where
-    by : Dec (τ ≤ m) → fires τ c m ≤ m
-    by (yes h) = omega (arith, fires-from τ c m h, div-le-self (m - τ) c)
-    by (no f) = omega (arith, fires-below τ c m (lt-of-not-le f))
-
 pub fires-unique : (τ c N M x : ℕ) → 0 < c → x + c * M ≡ N → x < τ → (0 < M → τ ≤ x + c) → M ≡ fires τ c N
 fires-unique τ c N zero x hc bal low last = sym (fires-below τ c N (omega arith))
 fires-unique τ c N (suc M) x hc bal low last =
@@ -91,14 +79,3 @@ fires-unique τ c N (suc M) x hc bal low last =
 -- the same with what `owed` says of the last firing
 pub fires-is : (τ c N M x : ℕ) → 0 < c → N ≡ x + c * M → x < τ → (0 < M → c * M + τ ≤ N + c) → M ≡ fires τ c N
 fires-is τ c N M x hc bal low last = fires-unique τ c N M x hc (sym bal) low (λ some. omega (arith, last some))
-
-pub takes-fires : (s p τ c : ℕ) (es : List Event) → 0 < c → c ≤ τ → Allowed p τ c s es → contents p c s es < τ
-    → takes es ≡ fires τ c (s + p * puts es)
-takes-fires s p τ c es hc ct al low = fires-is τ c (s + p * puts es) (takes es) (contents p c s es) hc (balance s p τ c es ct al) low (owed s p τ c es ct al)
-
-pub takes-most : (s p τ c : ℕ) (es : List Event) → 0 < c → c ≤ τ → Allowed p τ c s es → takes es ≤ fires τ c (s + p * puts es)
-takes-most s p τ c es hc ct al = by (takes es) (owed s p τ c es ct al)
-  where
-    by : (m : ℕ) → (0 < m → c * m + τ ≤ s + p * puts es + c) → m ≤ fires τ c (s + p * puts es)
-    by zero last = omega arith
-    by (suc m) last = fires-reach τ c (s + p * puts es) m hc .1 (omega (arith, last (omega arith)))

@@ -1,22 +1,16 @@
 -- Figures of Feed's queue, (4,7,3), from an empty start, each computed.
---   feed-counts                 P5: the sink's counts after 0 to 4 firings of the source
 --   feed-run                    the queue's events of the immediate run of 4 source firings
 --   feed-allowed, feed-settled  each take finds 7, and no put does
---   feed-top, feed-left         before its last two takes the queue holds its minimum; after them 4, as P5 has it
+--   feed-top                    before its last two takes the queue holds its minimum
 --   feed-three                  its events up to the third put
 --   feed-three-allowed, feed-three-puts, feed-three-short
 --                               an allowed list with 3 puts that never holds 10, so that no count below P6's 4 would do
 use mathlib.Core.Path.{_≡_, refl, subst}
-use mathlib.Core.List.{List, [], _∷_, _++_, map}
-use Prim.Native.Nat.{ℕ, _+_, _-_, _*_, _<_}
+use mathlib.Core.List.{List, [], _∷_, _++_}
+use Prim.Native.Nat.{ℕ, _+_, _-_, _<_}
 use native.Mathlib.Omega.{arith}
 use Rattle.onequeue.specs.Minimum.{minimum}
 use Rattle.events.specs.Events.{Event, put, take, puts, contents, Allowed, Settled, Holds}
-use Rattle.events.specs.Counts.{fires}
-
-pub feed-counts : map (λ k. fires 7 3 (4 * k)) (0 ∷ 1 ∷ 2 ∷ 3 ∷ 4 ∷ []) ≡ 0 ∷ 0 ∷ 1 ∷ 2 ∷ 4 ∷ []
-unfolding fires
-feed-counts = refl
 
 -- P5's run with k = 4
 abbrev pub feed-run : List Event
@@ -33,10 +27,6 @@ feed-settled = (omega arith, (omega arith, (omega arith, (omega arith, tt))))
 pub feed-top : contents 4 3 0 (put ∷ put ∷ take ∷ put ∷ take ∷ put ∷ []) ≡ minimum 0 4 7 3
 unfolding contents minimum
 feed-top = refl
-
-pub feed-left : contents 4 3 0 feed-run ≡ 4
-unfolding contents
-feed-left = refl
 
 abbrev pub feed-three : List Event
 feed-three = put ∷ put ∷ take ∷ put ∷ []
