@@ -1,8 +1,6 @@
 -- Figures of a history of Feed, from a fresh start, each computed.
 --   feed                     the factory chain 0: one queue, (4,7,3)
 --   feed-history             P5's run with k = 4: each firing of the source, then the sink until it is below threshold
---   feed-times               each of the two nodes fires 4 times
---   feed-left                at its end the queue holds 4, as P5 has it
 --   feed-first, feed-top     after its first 6 firings the queue holds 10, its minimum
 --   feed-permitted, feed-prompt
 --                            manual firing accepts each firing in turn, and the source fires only below threshold
@@ -18,7 +16,7 @@ use Rattle.sizing.specs.Sizes.{minimumOf}
 use Rattle.state.specs.State.{heldAt, freshRun}
 use Rattle.state.specs.Fired.{fired}
 use Rattle.state.specs.Fire.{fireRefusal}
-use Rattle.history.specs.History.{times, after, Permitted, Prompt}
+use Rattle.history.specs.History.{after, Permitted, Prompt}
 
 abbrev pub feed : Chain
 feed = factoryAnswer 0 .chain
@@ -29,14 +27,6 @@ feed-history = 0 ∷ 0 ∷ 1 ∷ 0 ∷ 1 ∷ 0 ∷ 1 ∷ 1 ∷ []
 -- its first 6 firings
 abbrev pub feed-first : List ℕ
 feed-first = 0 ∷ 0 ∷ 1 ∷ 0 ∷ 1 ∷ 0 ∷ []
-
-pub feed-times : (times 0 feed-history ≡ 4) × (times 1 feed-history ≡ 4)
-unfolding times
-feed-times = (refl, refl)
-
-pub feed-left : heldAt (after feed (freshRun feed) feed-history) 0 ≡ 4
-unfolding factoryAnswer freshRun fired after
-feed-left = refl
 
 pub feed-top : (heldAt (after feed (freshRun feed) feed-first) 0 ≡ 10) × (minimumOf (rowOf feed 0) ≡ 10)
 unfolding factoryAnswer freshRun fired after minimum

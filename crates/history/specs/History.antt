@@ -3,12 +3,14 @@
 --   after c s h              the state that the firings h lead to from s
 --   Permitted c s h          a permitted order: manual firing accepts each of its firings in turn
 --   Prompt c s h             no node fires while the node that it feeds is over threshold
---   HasHeld c h j b          from a fresh start, queue j has held at least b at some moment of h
+--   AtSome h P               P holds of what h begins with up to some moment
+--   at-some                  and so does what follows from it
+--   HasHeld c h j b, HeldExactly c h j b
+--                            from a fresh start, queue j has held at least b, and exactly b, at some moment of h
 --   after-append, permitted-append, prompt-append
 --                            histories one after the other
 --   permitted-before, prompt-before
 --                            what a history begins with
---   permitted-may            a permitted firing, as its parts
 use mathlib.Core.Path.{_≡_, refl}
 use mathlib.Core.Bool.{cond}
 use mathlib.Core.List.{List, [], _∷_, _++_}
@@ -17,11 +19,9 @@ use lib.Dec.{eqb}
 use Rattle.chain.specs.Refusals.{Silent}
 use Rattle.chain.specs.Record.{rowOf}
 use Rattle.chain.specs.declared.Chain.{Chain}
-use Rattle.sizing.specs.Accepted.{Accepted}
 use Rattle.state.specs.State.{heldAt, freshRun}
-use Rattle.state.specs.Fired.{fired, May}
-use Rattle.state.specs.Checks.{StateSound}
-use Rattle.state.specs.Fire.{fireRefusal, fire-accepts}
+use Rattle.state.specs.Fired.{fired}
+use Rattle.state.specs.Fire.{fireRefusal}
 use Rattle.state.specs.declared.Run.{Run}
 
 -- how often N_i fires in h
@@ -44,38 +44,52 @@ unfoldable pub Prompt : Chain → Run → List ℕ → Type 0
 Prompt c s [] = Unit
 Prompt c s (i ∷ h) = (i < c .n → heldAt s i < rowOf c i .threshold) × Prompt c (fired c s i) h
 
--- at some moment of h, which is the end of what h begins with, queue j holds at least b
-pub record HasHeld (c : Chain) (h : List ℕ) (j b : ℕ) : Type 0 where
+-- at some moment of h, which is the end of what h begins with, P holds of that beginning
+pub record AtSome (h : List ℕ) (P : List ℕ → Type 0) : Type 0 where
   pub before : List ℕ
   pub later : List ℕ
   pub parts : h ≡ before ++ later
-  pub holds : b ≤ heldAt (after c (freshRun c) before) j
+  pub holds : P before
+
+-- what follows from P at each moment holds at the moment at which P does
+pub at-some : {h : List ℕ} {P Q : List ℕ → Type 0} → ((before later : List ℕ) → h ≡ before ++ later → P before → Q before) → AtSome h P → AtSome h Q
+at-some f m = record { before = m .before; later = m .later; parts = m .parts; holds = f (m .before) (m .later) (m .parts) (m .holds) }
+
+-- at some moment of h, queue j holds at least b
+abbrev pub HasHeld : Chain → List ℕ → ℕ → ℕ → Type 0
+HasHeld c h j b = AtSome h (λ g. b ≤ heldAt (after c (freshRun c) g) j)
+
+-- at some moment of h, queue j holds exactly b
+abbrev pub HeldExactly : Chain → List ℕ → ℕ → ℕ → Type 0
+HeldExactly c h j b = AtSome h (λ g. heldAt (after c (freshRun c) g) j ≡ b)
 
 module _ (c : Chain) where
+  -- the state after one history and then another
   pub after-append : (s : Run) (g h : List ℕ) → after c s (g ++ h) ≡ after c (after c s g) h
   unfolding after
   after-append s [] h = refl
   after-append s (i ∷ g) h = after-append (fired c s i) g h
 
+  -- a permitted order that goes on with one is one
   pub permitted-append : (s : Run) (g h : List ℕ) → Permitted c s g → Permitted c (after c s g) h → Permitted c s (g ++ h)
   unfolding after Permitted
   permitted-append s [] h a b = b
   permitted-append s (i ∷ g) h a b = (a .0, permitted-append (fired c s i) g h (a .1) b)
 
+  -- what a permitted order begins with is one
   pub permitted-before : (s : Run) (g h : List ℕ) → Permitted c s (g ++ h) → Permitted c s g
   unfolding Permitted
   permitted-before s [] h a = tt
   permitted-before s (i ∷ g) h a = (a .0, permitted-before (fired c s i) g h (a .1))
 
+  -- and so of a prompt one
   pub prompt-append : (s : Run) (g h : List ℕ) → Prompt c s g → Prompt c (after c s g) h → Prompt c s (g ++ h)
   unfolding after Prompt
   prompt-append s [] h a b = b
   prompt-append s (i ∷ g) h a b = (a .0, prompt-append (fired c s i) g h (a .1) b)
 
+  -- and of what it begins with
   pub prompt-before : (s : Run) (g h : List ℕ) → Prompt c s (g ++ h) → Prompt c s g
   unfolding Prompt
   prompt-before s [] h a = tt
   prompt-before s (i ∷ g) h a = (a .0, prompt-before (fired c s i) g h (a .1))
-
-  pub permitted-may : (s : Run) (i : ℕ) → Silent (fireRefusal c s i) → Accepted c × (StateSound c s × May c s i)
-  permitted-may s i z = fire-accepts c s i .0 z

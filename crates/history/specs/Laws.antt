@@ -6,7 +6,6 @@
 --   balance                  what a queue started with and what was put into it is what it holds and what was taken from it
 --   naming                   a producer that fired the naming count has shown the minimum, in whatever permitted order
 --   peak-end, peak           a prompt order does not pass the minimum, at its end or at any moment
---   HeldExactly c h j b      from a fresh start, queue j has held exactly b at some moment of h
 --   reached                  a prompt order in which the producer fired the naming count has held exactly the minimum
 use mathlib.Core.Path.{_≡_, refl, sym, subst, _∙_}
 use mathlib.Core.Logic.{by-cases}
@@ -29,7 +28,7 @@ use Rattle.events.specs.Events as one
 use Rattle.events.specs.Events.{contents, Allowed, Settled, Holds}
 use Rattle.events.specs.Peak.{peak-law}
 use Rattle.events.specs.Naming.{naming-law}
-use Rattle.history.specs.History.{times, after, Permitted, Prompt, HasHeld, permitted-before, prompt-before}
+use Rattle.history.specs.History.{times, after, Permitted, Prompt, at-some, HasHeld, HeldExactly, permitted-before, prompt-before}
 use Rattle.history.specs.Queues.{events, times-again, times-other, puts-times, takes-times, Cut, cut, held-contents, queue-allowed, queue-settled}
 
 pub fresh-slots : (c : Chain) → Sound c → Slots (c .n) (freshRun c)
@@ -64,13 +63,6 @@ module _ (c : Chain) (a : Accepted c) (j : ℕ) (l : j < c .n) (h : List ℕ) (o
   fresh-settled low =
       subst (λ (x : ℕ). Settled (rowOf c j .produce) (rowOf c j .threshold) (rowOf c j .consume) x (events j h)) (fresh-held (a .chain) j l)
       (queue-settled c j l (freshRun c) h (fresh-slots c (a .chain)) ok low)
-
--- at some moment of h, which is the end of what h begins with, queue j holds exactly b
-pub record HeldExactly (c : Chain) (h : List ℕ) (j b : ℕ) : Type 0 where
-  pub before : List ℕ
-  pub later : List ℕ
-  pub parts : h ≡ before ++ later
-  pub holds : heldAt (after c (freshRun c) before) j ≡ b
 
 -- what a history begins with is permitted, and prompt, where the history is
 module _ (c : Chain) {h : List ℕ} (g k : List ℕ) (e : h ≡ g ++ k) where
@@ -116,6 +108,4 @@ module _ (c : Chain) (a : Accepted c) (h : List ℕ) (ok : Permitted c (freshRun
   peak j l b m = le-trans (m .holds) (peak-at (m .before) (m .later) (m .parts) j l)
 
   pub reached : (j : ℕ) → j < c .n → namingOf (rowOf c j) ≤ times j h → HeldExactly c h j (minimumOf (rowOf c j))
-  reached j l enough =
-      let m : HasHeld c h j (minimumOf (rowOf c j)) = naming c a h ok j l enough in
-      record { before = m .before; later = m .later; parts = m .parts; holds = le-antisymm (peak-at (m .before) (m .later) (m .parts) j l) (m .holds) }
+  reached j l enough = at-some (λ g k e least. le-antisymm (peak-at g k e j l) least) (naming c a h ok j l enough)

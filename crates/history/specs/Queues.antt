@@ -26,10 +26,10 @@ use Rattle.chain.specs.Record.{rowOf}
 use Rattle.chain.specs.declared.Chain.{Chain}
 use Rattle.state.specs.State.{heldAt}
 use Rattle.state.specs.Fired.{fired, Over, Slots, slots-kept, held-output, held-input, held-other}
-use Rattle.state.specs.Fire.{fireRefusal}
+use Rattle.state.specs.Fire.{fireRefusal, fire-accepts}
 use Rattle.state.specs.declared.Run.{Run}
 use Rattle.events.specs.Events.{Event, put, take, puts, takes, contents, contents-after, Allowed, Settled}
-use Rattle.history.specs.History.{times, after, Permitted, Prompt, permitted-may}
+use Rattle.history.specs.History.{times, after, Permitted, Prompt}
 
 -- a firing of N_q puts into queue q, one of N_(q+1) takes from it, and no other touches it
 unfoldable pub seen : ℕ → ℕ → List Event
@@ -136,7 +136,7 @@ module _ (c : Chain) (q : ℕ) (inside : q < c .n) where
       → heldAt (fired c s i) q ≡ contents (rowOf c q .produce) (rowOf c q .consume) (heldAt s q) (seen q i)
   unfolding contents
   fired-contents s i k z =
-      let m = permitted-may c s i z in
+      let m = fire-accepts c s i .0 z in
       seen-cases q i (λ es. heldAt (fired c s i) q ≡ contents (rowOf c q .produce) (rowOf c q .consume) (heldAt s q) es)
       (λ e. rw e (held-output c s q inside (omega (arith, k .held))))
       (λ e. rw e (omega (arith, held-input c s q (omega (arith, k .held)) (le-trans (m .0 .chain .rows q inside .order) (subst (Over c s) e (m .1 .1 .over))))))
@@ -145,7 +145,7 @@ module _ (c : Chain) (q : ℕ) (inside : q < c .n) where
   fired-allowed : (s : Run) (i : ℕ) → Silent (fireRefusal c s i) → Allowed (rowOf c q .produce) (rowOf c q .threshold) (rowOf c q .consume) (heldAt s q) (seen q i)
   unfolding Allowed
   fired-allowed s i z = seen-cases q i (Allowed (rowOf c q .produce) (rowOf c q .threshold) (rowOf c q .consume) (heldAt s q))
-      (λ e. tt) (λ e. (subst (Over c s) e (permitted-may c s i z .1 .1 .over), tt)) (λ n n′. tt)
+      (λ e. tt) (λ e. (subst (Over c s) e (fire-accepts c s i .0 z .1 .1 .over), tt)) (λ n n′. tt)
 
   fired-settled : (s : Run) (i : ℕ) → (i < c .n → heldAt s i < rowOf c i .threshold)
       → Settled (rowOf c q .produce) (rowOf c q .threshold) (rowOf c q .consume) (heldAt s q) (seen q i)

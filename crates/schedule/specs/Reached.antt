@@ -32,12 +32,13 @@ use Rattle.events.specs.Peak.{room}
 use Rattle.sizing.specs.Sizes.{start, minimumOf}
 use Rattle.state.specs.State.{countAt, heldAt, doneAt, freshRun, zeros, fresh-count, fresh-held, same-run}
 use Rattle.state.specs.Fired.{fired, Over, Balance, Slots, counts-length, holds-length, count-fired, count-other, held-sink, balance-kept}
+use Rattle.state.specs.Fire.{fire-accepts}
 use Rattle.state.specs.declared.Run.{Run}
-use Rattle.history.specs.History.{after, Permitted, permitted-may}
+use Rattle.history.specs.History.{after, Permitted}
 use Rattle.schedule.specs.Counts.{fed, F}
 
--- a state that firings lead to: "clock and work done stay 0", "the slots past n are not changed", each queue has its balance, and its
--- consumer's last firing found τ
+-- a state that firings lead to: "clock and work done stay 0", the slots past n are as a fresh start has them, each queue has its balance,
+-- and its consumer's last firing found τ
 pub record Reached (c : Chain) (s : Run) : Type 0 where
   pub clock : s .clock ≡ 0
   pub done : s .done ≡ replicate 16 0
@@ -119,7 +120,7 @@ pub reached-along : {c : Chain} {s : Run} → Sound c → (h : List ℕ) → Rea
 unfolding after Permitted
 reached-along k [] r p = r
 reached-along {c} {s} k (i ∷ h) r p =
-    let may = permitted-may c s i (p .0) .1 .1 in
+    let may = fire-accepts c s i .0 (p .0) .1 .1 in
     reached-along k h (reached-fired k r i (may .node) (may .over)) (p .1)
 
 pub reached-after : {c : Chain} → Sound c → (h : List ℕ) → Permitted c (freshRun c) h → Reached c (after c (freshRun c) h)
