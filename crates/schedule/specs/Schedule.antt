@@ -3,6 +3,7 @@
 --   burst c m i N            what the firing of N_i that takes its count from N to N + 1 sets off, m queues being left towards the sink
 --   burst-exact              its minus is exact
 --   schedule c k             the immediate run of k source firings, from a fresh start; schedule-none, -more: one source firing after the other
+--   feed-schedule            the order of Feed's run of 4, computed
 --   Next c s i               01's rule: N_i is the node nearest the sink that may fire
 --   next-one, HasNext, next-some
 --                            there is exactly one such node in every state
@@ -28,8 +29,8 @@ use native.Mathlib.Omega.{arith}
 use lib.ListN.{length}
 use Rattle.chain.specs.Record.{rowOf}
 use Rattle.chain.specs.Sound.{Sound}
+use Rattle.chain.specs.Factory.{factoryAnswer}
 use Rattle.chain.specs.declared.Chain.{Chain}
-use Rattle.onequeue.specs.Capacity.{capacity}
 use Rattle.onequeue.specs.Minimum.{minimum-threshold}
 use Rattle.events.specs.Counts.{fires, fires-reach, fires-settles}
 use Rattle.sizing.specs.Sizes.{start, minimumOf, capacityOf}
@@ -61,6 +62,11 @@ burst c (suc m) i N = i ∷ joined (burst c m (suc i)) (fed c i (suc N) - fed c 
 unfoldable pub schedule : Chain → ℕ → List ℕ
 unfolding burst
 schedule c k = joined (burst c (c .n) 0) k 0
+
+-- P5's run of 4 source firings, computed: each firing of the source, then the sink until it is below threshold
+pub feed-schedule : schedule (factoryAnswer 0 .chain) 4 ≡ 0 ∷ 0 ∷ 1 ∷ 0 ∷ 1 ∷ 0 ∷ 1 ∷ 1 ∷ []
+unfolding schedule factoryAnswer
+feed-schedule = refl
 
 pub burst-exact : (c : Chain) (i N : ℕ) → fed c i N + (fed c i (suc N) - fed c i N) ≡ fed c i (suc N)
 burst-exact c i N = omega (arith, fed-mono c i N (suc N) (omega arith))
@@ -299,8 +305,8 @@ follows-permitted {c} a enough s (i ∷ h) r tight most f =
       follows-permitted a enough (fired c s i) h (reached-fired k r i (next .node) (next .over)) (tight-fired k r next tight) most (f .1),
     )
 
--- "both runs within the limit", which a run of the product refuses with 9 beyond
-pub permitted : {c : Chain} → Accepted c → ((i : ℕ) → i < c .n → Enough c i) → (k : ℕ) → ((j : ℕ) → j ≤ c .n → F c k j ≤ 1000000)
+-- manual firing accepts each firing of the schedule in turn, where no count passes the largest word; an immediate run is refused 9 long before
+pub permitted : {c : Chain} → Accepted c → ((i : ℕ) → i < c .n → Enough c i) → (k : ℕ) → ((j : ℕ) → j ≤ c .n → F c k j ≤ limit)
     → Permitted c (freshRun c) (schedule c k)
 permitted {c} a enough k few =
     follows-permitted a enough (freshRun c) (schedule c k) (reached-fresh (a .chain)) (fresh-tight (a .chain))
