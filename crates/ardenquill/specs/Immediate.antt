@@ -9,3 +9,4 @@ unfoldable pub use Rattle.schedule.specs.Schedule.{joined, burst, schedule, Fol
 pub use Rattle.schedule.specs.Schedule.{burst-exact, schedule-none, schedule-more, Next, next-one, HasNext, next-some, follows-append, follows-alike, follows-prompt, rule, ends, source, reached, counts-are-F, unique, Tight, fresh-tight, tight-fired, follows-permitted, permitted, any-order}
 pub use Rattle.immediate.specs.Checks.{most, lengthTest, immediateChecks, FirstTooLong, length-exact, length-silent, length-only, immediate-parts, immediate-9, immediate-earlier, immediate-accepts, immediate-ran, immediate-refused}
 unfoldable pub use Rattle.immediate.specs.Checks.{lengthCheck, immediateRefusal, immediateAnswer}
+pub use Rattle.immediate.specs.Past.{F-alike, length-alike, refusal-alike, reached-alike, calm-alike, state-alike, immediate-alike}
