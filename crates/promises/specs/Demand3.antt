@@ -4,6 +4,8 @@
 --                            replayAnswer c h .run is the state (Replay)
 --   k, schedule c k          a number of source firings, and the immediate run's order
 --   line c j                 what analyse answers of queue j: minimum is b, by the naming count, x and y its consumer's rate
+--   Ample c i                queue i's capacity, if written, is not below its reported minimum
+--   Low c s, LowAt c s i     in the state s no queue's consumer is over threshold, so that only the source may fire; queue i's is not
 --   Always c h P, Sometime c h P
 --                            P holds of the state at every moment of h, at some moment of h; a moment is the end of what h begins with
 --   AtOnce c h               no node fires while the node that it feeds is over threshold
@@ -14,27 +16,32 @@
 --   counted, balance         "each queue holds what its producer's firings put in less what its consumer's took out"
 --   naming                   "in no permitted order can a producer fire as often as 01 names .. unless that queue has held at least the minimum"
 --   peak                     "when nodes fire at once .. no queue passes that minimum"
---   run-fires, run-rule, run-at-once, run-peak
---                            the immediate run is such an order: manual firing accepts it, it is by the rule, and no queue passes its minimum
---   runs-is                  it is refused exactly where the chain is, a capacity is below the reported minimum, or a count passes the limit
---   counts, source, at-rest  its counts are the exact ones, F, the source's is k, and clock and work done are 0
---   any-order                every permitted order that leaves only the source to fire ends in its state
+--   never-full               nodes that fire at once are never stopped by a full queue
+--   filled                   and a producer that has fired the naming count has filled its queue to exactly the minimum
+--   any-order                permitted orders of equally many source firings that leave only the source to fire end in one state
+--   runs-is                  the immediate run is refused exactly where the chain is, a capacity is below the reported minimum, or a count passes the limit
+--   run-fires, run-state     it is a permitted order: manual firing accepts each of its firings, and they lead to its state
+--   run-rule, run-at-once, run-peak
+--                            it is by the rule, so nodes fire at once, and no queue passes its minimum
+--   run-low, run-any-order   it leaves only the source to fire, so every permitted order that does ends in its state
+--   counts, source           its counts are the exact ones, F, and the source's is k
+--   at-rest                  clock and work done are 0, and so are the slots past n
+--   reached                  a producer that has fired the naming count has filled its queue to exactly the minimum
 --   rates, rate, rate-exact  "a node that has fired keeps exactly its x firings per y ticks": m cycles, one, and that y is whole periods of the source
---   filled, reached          where nodes fire at once, a producer that has fired the naming count has filled its queue to exactly the minimum
 use mathlib.Core.Path.{_≡_, refl, sym, ap, subst, _∙_}
 use mathlib.Core.Logic.{_↔_, _⊎_}
 use mathlib.Core.List.{List, [], _∷_, _++_}
 use Prim.Native.Nat.{ℕ, suc, _+_, _*_, _/_, _≤_, _<_, _∣_}
-use native.Mathlib.Nat.{le-refl}
+use native.Mathlib.Nat.{le-refl, one-mul}
 use native.Mathlib.Omega.{arith}
 use lib.ListN.{getD, replicate}
-use Rattle.ardenquill.specs.Chains.{rowOf, Sound}
-use Rattle.ardenquill.specs.Analyses.{xOf, yOf, y-source, start, minimumOf, namingOf, sizeBy, sizeOf, noSize, size-at, analyseAnswer, Accepted, analysed, Enough}
-use Rattle.ardenquill.specs.Runs.{countAt, heldAt, freshRun, answered, fired}
+use Rattle.ardenquill.specs.Chains.{refused, rowOf, Sound}
+use Rattle.ardenquill.specs.Analyses.{xOf, yOf, y-source, start, minimumOf, namingOf, sizeBy, sizeOf, noSize, size-at, capacityOf, analyseAnswer, Accepted, analysed, Enough, enough-capacity}
+use Rattle.ardenquill.specs.Runs.{countAt, heldAt, freshRun, answered, fired, fireRefusal, fireAnswer, fire-12}
 use Rattle.ardenquill.specs.Histories as histories
-use Rattle.ardenquill.specs.Histories.{times, after, Permitted, Prompt, HasHeld, HeldExactly}
+use Rattle.ardenquill.specs.Histories.{times, after, Permitted, Prompt, AtSome, at-some, HasHeld}
 use Rattle.ardenquill.specs.Immediate as immediate
-use Rattle.ardenquill.specs.Immediate.{F, schedule, Next, Follows, rule, most, immediateRefusal, immediateAnswer, immediate-accepts, immediate-ran, permitted, counts-are-F}
+use Rattle.ardenquill.specs.Immediate.{F, Reached, reached-after, below-minimum, schedule, Next, Follows, rule, most, immediateRefusal, immediateAnswer, immediate-accepts, immediate-ran, permitted, counts-are-F}
 use Rattle.chain.specs.declared.Chain.{Chain}
 use Rattle.sizing.specs.declared.QueueSize.{QueueSize}
 use Rattle.sizing.specs.declared.AnalysisAnswer.{AnalysisAnswer}
@@ -50,15 +57,24 @@ abbrev pub Always : Chain → List ℕ → (Run → Type 0) → Type 0
 Always c h P = (before later : List ℕ) → h ≡ before ++ later → P (replayAnswer c before .run)
 
 -- P holds of the state at some moment of h
-pub record Sometime (c : Chain) (h : List ℕ) (P : Run → Type 0) : Type 0 where
-  pub before : List ℕ
-  pub later : List ℕ
-  pub parts : h ≡ before ++ later
-  pub holds : P (replayAnswer c before .run)
+abbrev pub Sometime : Chain → List ℕ → (Run → Type 0) → Type 0
+Sometime c h P = AtSome h (λ g. P (replayAnswer c g .run))
+
+-- "no capacity is below the reported minimum", of queue i
+abbrev pub Ample : Chain → ℕ → Type 0
+Ample c i = (rowOf c i .capacity ≡ 0) ⊎ (line c i .minimum ≤ rowOf c i .capacity)
+
+-- the node that N_i feeds, if any, is below threshold
+abbrev pub LowAt : Chain → Run → ℕ → Type 0
+LowAt c s i = i < c .n → heldAt s i < rowOf c i .threshold
+
+-- no node but the source is over threshold
+abbrev pub Low : Chain → Run → Type 0
+Low c s = (j : ℕ) → LowAt c s j
 
 -- when N_i fires, the node that it feeds, if any, is below threshold
 abbrev pub AtOnce : Chain → List ℕ → Type 0
-AtOnce c h = (before later : List ℕ) (i : ℕ) → h ≡ before ++ (i ∷ later) → i < c .n → heldAt (replayAnswer c before .run) i < rowOf c i .threshold
+AtOnce c h = (before later : List ℕ) (i : ℕ) → h ≡ before ++ (i ∷ later) → LowAt c (replayAnswer c before .run) i
 
 -- "no source firing happens while another node may fire, and among those that may, the one nearest the sink goes first"
 abbrev pub NearestFirst : Chain → List ℕ → Type 0
@@ -100,7 +116,7 @@ module _ (c : Chain) (a : Accepted c) (j : ℕ) (l : j < c .n) where
 
 -- an order that fires each node only when the one that it feeds is below threshold, firing by firing
 prompt : (c : Chain) (s : Run) (h : List ℕ)
-    → ((before later : List ℕ) (i : ℕ) → h ≡ before ++ (i ∷ later) → i < c .n → heldAt (after c s before) i < rowOf c i .threshold) → Prompt c s h
+    → ((before later : List ℕ) (i : ℕ) → h ≡ before ++ (i ∷ later) → LowAt c (after c s before) i) → Prompt c s h
 unfolding Prompt after
 prompt c s [] low = tt
 prompt c s (i ∷ h) low = (low [] h i refl, prompt c (fired c s i) h (λ g k m e. low (i ∷ g) k m (ap (λ (t : List ℕ). i ∷ t) e)))
@@ -138,8 +154,7 @@ module _ (c : Chain) (h : List ℕ) (ok : Fires c h) where
   -- may be below it, since manual firing does not check them
   pub naming : (j : ℕ) → j < c .n → line c j .by ≤ times j h → Sometime c h (λ s. line c j .minimum ≤ heldAt s j)
   naming j l often =
-      let m : HasHeld c h j (minimumOf (rowOf c j)) = histories.naming c accepted h permits j l (rw (by-is c accepted j l) at often) in
-      record { before = m .before; later = m .later; parts = m .parts; holds = rw (moment (m .before) (m .later) (m .parts), minimum-is c accepted j l) (m .holds) }
+      at-some (λ g k e m. rw (moment g k e, minimum-is c accepted j l) m) (histories.naming c accepted h permits j l (rw (by-is c accepted j l) at often))
 
   prompts : AtOnce c h → Prompt c (freshRun c) h
   prompts low = prompt c (freshRun c) h (λ g k i e. rw (moment g (i ∷ k) e) at (low g k i e))
@@ -153,12 +168,33 @@ module _ (c : Chain) (h : List ℕ) (ok : Fires c h) where
   -- so a producer that has fired the naming count has filled its queue to exactly the minimum
   pub filled : AtOnce c h → (j : ℕ) → j < c .n → line c j .by ≤ times j h → Sometime c h (λ s. heldAt s j ≡ line c j .minimum)
   filled low j l often =
-      let m : HeldExactly c h j (minimumOf (rowOf c j)) = histories.reached c accepted h permits (prompts low) j l (rw (by-is c accepted j l) at often) in
-      record { before = m .before; later = m .later; parts = m .parts; holds = rw (moment (m .before) (m .later) (m .parts), minimum-is c accepted j l) (m .holds) }
+      at-some (λ g k e m. rw (moment g k e, minimum-is c accepted j l) m) (histories.reached c accepted h permits (prompts low) j l (rw (by-is c accepted j l) at often))
+
+  -- nodes that fire at once are never stopped by a full queue, where no capacity is below the reported minimum: manual firing does not refuse
+  -- N_i with 12 while the node that it feeds is below threshold
+  pub never-full : (i : ℕ) → Ample c i → LowAt c (replayAnswer c h .run) i → fireAnswer c (replayAnswer c h .run) i .number ≡ 12 → ⊥
+  unfolding fireAnswer answered
+  never-full i big low e =
+      let r : Reached c (replayAnswer c h .run) = rw state-is (reached-after (accepted .chain) h permits) in
+      let says : fireRefusal c (replayAnswer c h .run) i ≡ refused 12 (fireRefusal c (replayAnswer c h .run) i .place) = λ t. record { number = e t; place = fireRefusal c (replayAnswer c h .run) i .place } in
+      let f = fire-12 c (replayAnswer c h .run) i _ .0 says .1 .0 in
+      let cap : minimumOf (rowOf c i) ≤ capacityOf (rowOf c i) = enough-capacity c i (rw (minimum-is c accepted i (f .0)) at big) in
+      omega (arith, below-minimum (accepted .chain) r i (f .0) (low (f .0)), cap, f .1)
+
+-- whatever the order: equally many source firings that leave no other node over threshold lead to one state
+pub any-order : (c : Chain) (g h : List ℕ) → Fires c g → Fires c h → times 0 g ≡ times 0 h → Low c (replayAnswer c g .run) → Low c (replayAnswer c h .run)
+    → replayAnswer c g .run ≡ replayAnswer c h .run
+any-order c g h ok ok′ e low low′ =
+    let s : Sound c = accepted c g ok .chain in
+    state-is c g ok
+    ∙ immediate.any-order s g (permits c g ok) (λ j z l. rw (state-is c g ok) at (low j l))
+    ∙ ap (λ (m : ℕ). after c (freshRun c) (schedule c m)) e
+    ∙ sym (immediate.any-order s h (permits c h ok′) (λ j z l. rw (state-is c h ok′) at (low′ j l)))
+    ∙ sym (state-is c h ok′)
 
 -- "no capacity is below the reported minimum", and "both runs within the limit"
 pub runs-is : (c : Chain) (k : ℕ)
-    → Runs c k ↔ ((Accepts c × ((j : ℕ) → j < c .n → (rowOf c j .capacity ≡ 0) ⊎ (line c j .minimum ≤ rowOf c j .capacity))) × ((i : ℕ) → i ≤ c .n → F c k i ≤ most))
+    → Runs c k ↔ ((Accepts c × ((j : ℕ) → j < c .n → Ample c j)) × ((i : ℕ) → i ≤ c .n → F c k i ≤ most))
 unfolding immediateAnswer answered
 runs-is c k = (
   λ ran. let p = immediate-accepts c k .0 ran in ((accepts-is c .1 (p .0 .0), λ j l. rw (minimum-is c (p .0 .0) j l) (p .0 .1 j l)), p .1),
@@ -180,10 +216,11 @@ module _ (c : Chain) (k : ℕ) (ran : Runs c k) where
   ends-in : immediateAnswer c k .run ≡ after c (freshRun c) (schedule c k)
   ends-in = immediate-ran c k silent
 
-  -- manual firing accepts each of its firings in turn, and its state is the one that they lead to
+  -- manual firing accepts each of its firings in turn
   pub run-fires : Fires c (schedule c k)
-  run-fires = fires-is c (schedule c k) .1 (parts .0 .0, permitted (parts .0 .0) (parts .0 .1) k (parts .1))
+  run-fires = fires-is c (schedule c k) .1 (parts .0 .0, permitted (parts .0 .0) (parts .0 .1) k (λ j l. omega (arith, parts .1 j l)))
 
+  -- and its state is the one that they lead to
   pub run-state : immediateAnswer c k .run ≡ replayAnswer c (schedule c k) .run
   run-state = ends-in ∙ sym (state-is c (schedule c k) run-fires)
 
@@ -203,22 +240,23 @@ module _ (c : Chain) (k : ℕ) (ran : Runs c k) where
   pub counts : (i : ℕ) → i ≤ c .n → countAt (immediateAnswer c k .run) i ≡ F c k i
   counts i l = rw ends-in (counts-are-F sound k i l)
 
+  -- of which the source's is k
   pub source : countAt (immediateAnswer c k .run) 0 ≡ k
   unfolding F
   source = counts 0 (omega arith)
 
-  -- "clock and work done stay 0"
-  pub at-rest : (immediateAnswer c k .run .clock ≡ 0) × (immediateAnswer c k .run .done ≡ replicate 16 0)
-  at-rest = rw ends-in (immediate.reached sound k .clock, immediate.reached sound k .done)
+  -- "clock and work done stay 0", and the slots past n are 0
+  pub at-rest : ((immediateAnswer c k .run .clock ≡ 0) × (immediateAnswer c k .run .done ≡ replicate 16 0))
+      × (((i : ℕ) → c .n < i → countAt (immediateAnswer c k .run) i ≡ 0) × ((j : ℕ) → c .n ≤ j → heldAt (immediateAnswer c k .run) j ≡ 0))
+  at-rest = let r : Reached c (after c (freshRun c) (schedule c k)) = immediate.reached sound k in rw ends-in ((r .clock, r .done), (r .counts-past, r .held-past))
 
-  -- the end of every permitted order with as many source firings that leaves no other node over threshold is the immediate run's
-  pub any-order : (h : List ℕ) → Fires c h → times 0 h ≡ k → ((j : ℕ) → j < c .n → heldAt (replayAnswer c h .run) j < rowOf c j .threshold)
-      → replayAnswer c h .run ≡ immediateAnswer c k .run
-  any-order h ok e low =
-      state-is c h ok
-      ∙ immediate.any-order sound h (permits c h ok) (λ j z l. rw (state-is c h ok) at (low j l))
-      ∙ ap (λ (m : ℕ). after c (freshRun c) (schedule c m)) e
-      ∙ sym ends-in
+  -- it ends with no node but the source over threshold
+  pub run-low : Low c (immediateAnswer c k .run)
+  run-low = rw ends-in (λ j l. immediate.ends sound k j (omega arith) l)
+
+  -- so every permitted order of k source firings that ends so leads to its state
+  pub run-any-order : (h : List ℕ) → Fires c h → times 0 h ≡ k → Low c (replayAnswer c h .run) → replayAnswer c h .run ≡ immediateAnswer c k .run
+  run-any-order h ok e low = any-order c h (schedule c k) ok run-fires (e ∙ sym (immediate.source sound k)) low (rw (← run-state) run-low) ∙ sym run-state
 
   -- where a producer has fired its queue's naming count, the queue has held exactly the minimum
   pub reached : (j : ℕ) → j < c .n → line c j .by ≤ countAt (immediateAnswer c k .run) j → Sometime c (schedule c k) (λ s. heldAt s j ≡ line c j .minimum)
@@ -237,11 +275,7 @@ module _ (c : Chain) (j : ℕ) (l : j < c .n) where
   -- and of y ticks
   pub rate : (k : ℕ) → Runs c k → Runs c (k + line c j .y / c .period) → 0 < countAt (immediateAnswer c k .run) (suc j)
       → countAt (immediateAnswer c (k + line c j .y / c .period) .run) (suc j) ≡ countAt (immediateAnswer c k .run) (suc j) + line c j .x
-  rate k ran more has =
-      let a : Accepted c = parts c k ran .0 .0 in
-      let was : countAt (immediateAnswer c k .run) (suc j) ≡ F c k (suc j) = counts c k ran (suc j) l in
-      counts c _ more (suc j) l
-      ∙ rw (was, x-is c a j l, y-is c a j l) (immediate.rate c (a .chain) (suc j) l k (rw was at has))
+  rate k ran more has = let one : 1 * (line c j .y / c .period) ≡ line c j .y / c .period = one-mul _ in rw (one, one-mul (line c j .x)) at (rates k 1 ran (rw one more) has)
 
   -- and y is a whole number of periods
   pub rate-exact : Accepts c → c .period ∣ line c j .y
