@@ -1,3 +1,4 @@
 pub mod Replay
 pub mod Demand3
 pub mod Replayed
+pub mod Figures
