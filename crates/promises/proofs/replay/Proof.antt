@@ -23,7 +23,9 @@ loop-holds : tie.Need-loop-holds Inv-loop μ-loop
 loop-holds c = replay-start _ _ (c .fresh .ensures)
 
 returns : tie.Need-returns Inv-loop μ-loop
-returns c = replayed _ _ (sym (stopped _ (c .before .before .before .loop .answer) _ (λ z. omega (arith, c .if1 .taken))) ∙ c .before .before .before .loop .inv)
+returns c =
+    let loop = c .before .before .before .loop in
+    replayed _ _ (sym (stopped _ (loop .answer) _ (λ z. omega (arith, c .if1 .taken))) ∙ loop .inv)
 
 mul-fire : tie.Need-mul-fire Inv-loop μ-loop
 mul-fire c = search needs
@@ -41,7 +43,11 @@ loop-less : tie.Need-loop-less Inv-loop μ-loop
 loop-less c = search needs
 
 loop-again : tie.Need-loop-again Inv-loop μ-loop
-loop-again c = replay-next _ (c .before .before .before .before .before .before .loop .answer) _ (c .before .before .before .before .before .before .loop .i) (c .before .before .before .before .before .loop-test .taken) (c .before .before .before .if1 .left) (c .fire .ensures) ∙ c .before .before .before .before .before .before .loop .inv
+loop-again c =
+    let passed = c .before .before .before in
+    let test = passed .before .before in
+    let loop = test .before .loop in
+    replay-next _ (loop .answer) _ (loop .i) (test .loop-test .taken) (passed .if1 .left) (c .fire .ensures) ∙ loop .inv
 
 returns-2 : tie.Need-returns-2 Inv-loop μ-loop
 returns-2 c = replayed _ _ (sym (replay-end _ _ _ _ (c .loop-test .left)) ∙ c .before .loop .inv)
