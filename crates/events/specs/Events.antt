@@ -37,6 +37,7 @@ contents p c x [] = x
 contents p c x (put ∷ es) = contents p c (x + p) es
 contents p c x (take ∷ es) = contents p c (x - c) es
 
+-- what is held after more events
 pub contents-after : (p c x : ℕ) (before after : List Event) → contents p c x (before ++ after) ≡ contents p c (contents p c x before) after
 unfolding contents
 contents-after p c x [] after = refl
@@ -62,6 +63,7 @@ balance s p τ c [] ct al = omega arith
 balance s p τ c (put ∷ es) ct al = omega (arith, balance (s + p) p τ c es ct al)
 balance s p τ c (take ∷ es) ct al = omega (arith, al .0, balance (s - c) p τ c es ct (al .1))
 
+-- the last take found τ
 pub owed : (s p τ c : ℕ) (es : List Event) → c ≤ τ → Allowed p τ c s es → 0 < takes es → c * takes es + τ ≤ s + p * puts es + c
 unfolding puts takes Allowed
 owed s p τ c [] ct al some = absurd (omega arith)

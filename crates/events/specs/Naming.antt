@@ -22,6 +22,7 @@ record Put (es : List Event) (j : ℕ) : Type 0 where
   pub parts : es ≡ (before ++ put ∷ []) ++ after
   pub count : puts before ≡ j
 
+-- there is one for each j below their number
 put-at : (es : List Event) (j : ℕ) → j < puts es → Put es j
 unfolding puts
 put-at [] j h = absurd (omega arith)
@@ -53,6 +54,7 @@ held s p τ c r j es ct hr far same al e =
     (subst (λ n. s + p * n ≡ contents p c s es + c * takes es) e (balance s p τ c es ct al))
     (subst (λ n. 0 < takes es → c * takes es + τ ≤ s + p * n + c) e (owed s p τ c es ct al))
 
+-- equal remainders stay equal when the same is added
 rest-add : (s a b c : ℕ) → a % c ≡ b % c → (s + a) % c ≡ (s + b) % c
 rest-add s a b c e = add-mod s a c ∙ ap (λ (n : ℕ). (s % c + n) % c) e ∙ sym (add-mod s b c)
 
@@ -71,6 +73,7 @@ shown s p τ c r j es ct hr far same al more =
       holds = omega (arith, contents-after p c s (at .before) (put ∷ []));
     }
 
+-- after the naming count of puts the queue has held its minimum
 pub naming-law : (s p τ c : ℕ) (es : List Event) → 0 < p → 0 < c → c ≤ τ → s < τ → Allowed p τ c s es → naming s p τ c ≤ puts es
     → Holds p c s es (minimum s p τ c)
 unfolding naming minimum residue

@@ -22,6 +22,7 @@ rest-held s p c g u w N M x ep ec bal =
     sym (rest-of-sum (x + c * M) x g (w * M) (rw (← ec) (omega arith)))
     ∙ rest-of-sum (x + c * M) s g (u * N) (sym bal ∙ rw (← ep) (omega arith))
 
+-- a queue below τ has room for one production within its minimum
 pub room : (s p τ c N M x : ℕ) → 0 < p → s < τ → s + p * N ≡ x + c * M → x < τ → x + p ≤ minimum s p τ c
 unfolding minimum
 room s p τ c N M x hp hs bal low =
@@ -38,22 +39,26 @@ peak-from s p τ c N M x (put ∷ es) hp ct hs bal most al st =
 peak-from s p τ c N M x (take ∷ es) hp ct hs bal most al st =
     peak-from s p τ c N (suc M) (x - c) es hp ct hs (omega (arith, al .0)) (omega arith) (al .1) st
 
+-- from what the queue starts with on: where each take finds τ and no put does, the minimum is not passed
 pub peak-law : (s p τ c : ℕ) (es : List Event) → 0 < p → c ≤ τ → s < τ → Allowed p τ c s es → Settled p τ c s es
     → contents p c s es ≤ minimum s p τ c
 peak-law s p τ c es hp ct hs = peak-from s p τ c 0 0 s es hp ct hs (omega arith) (omega (arith, minimum-threshold s p τ c hs hp))
 
+-- the first events of an allowed list are one
 pub allowed-before : (p τ c x : ℕ) (before after : List Event) → Allowed p τ c x (before ++ after) → Allowed p τ c x before
 unfolding Allowed
 allowed-before p τ c x [] after al = tt
 allowed-before p τ c x (put ∷ before) after al = allowed-before p τ c (x + p) before after al
 allowed-before p τ c x (take ∷ before) after al = (al .0, allowed-before p τ c (x - c) before after (al .1))
 
+-- and so of a settled list
 pub settled-before : (p τ c x : ℕ) (before after : List Event) → Settled p τ c x (before ++ after) → Settled p τ c x before
 unfolding Settled
 settled-before p τ c x [] after st = tt
 settled-before p τ c x (put ∷ before) after st = (st .0, settled-before p τ c (x + p) before after (st .1))
 settled-before p τ c x (take ∷ before) after st = settled-before p τ c (x - c) before after st
 
+-- so at no moment the minimum is passed
 pub peak-always : (s p τ c b : ℕ) (es : List Event) → 0 < p → c ≤ τ → s < τ → Allowed p τ c s es → Settled p τ c s es
     → Holds p c s es b → b ≤ minimum s p τ c
 peak-always s p τ c b es hp ct hs al st h =
