@@ -18,9 +18,11 @@ use Rattle.state.specs.Fired.{fired}
 use Rattle.state.specs.Fire.{fireRefusal}
 use Rattle.history.specs.History.{after, Permitted, Prompt}
 
+-- the factory chain 0
 abbrev pub feed : Chain
 feed = factoryAnswer 0 .chain
 
+-- P5's run with k = 4
 abbrev pub feed-history : List ℕ
 feed-history = 0 ∷ 0 ∷ 1 ∷ 0 ∷ 1 ∷ 0 ∷ 1 ∷ 1 ∷ []
 
@@ -28,14 +30,17 @@ feed-history = 0 ∷ 0 ∷ 1 ∷ 0 ∷ 1 ∷ 0 ∷ 1 ∷ 1 ∷ []
 abbrev pub feed-first : List ℕ
 feed-first = 0 ∷ 0 ∷ 1 ∷ 0 ∷ 1 ∷ 0 ∷ []
 
+-- after them the queue holds 10, which is its minimum
 pub feed-top : (heldAt (after feed (freshRun feed) feed-first) 0 ≡ 10) × (minimumOf (rowOf feed 0) ≡ 10)
 unfolding factoryAnswer freshRun fired after minimum
 feed-top = (refl, refl)
 
+-- manual firing accepts each firing of the run
 pub feed-permitted : Permitted feed (freshRun feed) feed-history
 unfolding factoryAnswer freshRun fired fireRefusal Permitted
 feed-permitted = (refl, (refl, (refl, (refl, (refl, (refl, (refl, (refl, tt))))))))
 
+-- and each node of it fires only when the node that it feeds is below threshold
 pub feed-prompt : Prompt feed (freshRun feed) feed-history
 unfolding factoryAnswer freshRun fired Prompt
 feed-prompt =

@@ -31,6 +31,7 @@ use Rattle.events.specs.Naming.{naming-law}
 use Rattle.history.specs.History.{times, after, Permitted, Prompt, at-some, HasHeld, HeldExactly, permitted-before, prompt-before}
 use Rattle.history.specs.Queues.{events, times-again, times-other, puts-times, takes-times, Cut, cut, held-contents, queue-allowed, queue-settled}
 
+-- a fresh start has a count for each node and a slot for each queue
 pub fresh-slots : (c : Chain) → Sound c → Slots (c .n) (freshRun c)
 unfolding freshRun
 fresh-slots c a = record { counts = omega (arith, a .count .1, length-replicate {A = ℕ} 17 0); held = rw (length-tab 16 _) (a .count .1) }
@@ -49,35 +50,42 @@ counted c a h i l = omega (arith, counted-from c (freshRun c) h i (omega (arith,
 
 -- what queue j sees of h, from what it starts with
 module _ (c : Chain) (a : Accepted c) (j : ℕ) (l : j < c .n) (h : List ℕ) (ok : Permitted c (freshRun c) h) where
+  -- the queue holds what its events leave of what it starts with
   pub fresh-contents : heldAt (after c (freshRun c) h) j ≡ contents (rowOf c j .produce) (rowOf c j .consume) (start (rowOf c j)) (events j h)
   fresh-contents =
       subst (λ (x : ℕ). heldAt (after c (freshRun c) h) j ≡ contents (rowOf c j .produce) (rowOf c j .consume) x (events j h)) (fresh-held (a .chain) j l)
       (held-contents c j l (freshRun c) h (fresh-slots c (a .chain)) ok)
 
+  -- each of its takes finds τ
   pub fresh-allowed : Allowed (rowOf c j .produce) (rowOf c j .threshold) (rowOf c j .consume) (start (rowOf c j)) (events j h)
   fresh-allowed =
       subst (λ (x : ℕ). Allowed (rowOf c j .produce) (rowOf c j .threshold) (rowOf c j .consume) x (events j h)) (fresh-held (a .chain) j l)
       (queue-allowed c j l (freshRun c) h (fresh-slots c (a .chain)) ok)
 
+  -- and in a prompt order each of its puts finds less
   pub fresh-settled : Prompt c (freshRun c) h → Settled (rowOf c j .produce) (rowOf c j .threshold) (rowOf c j .consume) (start (rowOf c j)) (events j h)
   fresh-settled low =
       subst (λ (x : ℕ). Settled (rowOf c j .produce) (rowOf c j .threshold) (rowOf c j .consume) x (events j h)) (fresh-held (a .chain) j l)
       (queue-settled c j l (freshRun c) h (fresh-slots c (a .chain)) ok low)
 
--- what a history begins with is permitted, and prompt, where the history is
+-- what a history begins with
 module _ (c : Chain) {h : List ℕ} (g k : List ℕ) (e : h ≡ g ++ k) where
+  -- a beginning of a permitted history is permitted
   permitted-start : Permitted c (freshRun c) h → Permitted c (freshRun c) g
   permitted-start ok = permitted-before c (freshRun c) g k (subst (Permitted c (freshRun c)) e ok)
 
+  -- and one of a prompt history is prompt
   prompt-start : Prompt c (freshRun c) h → Prompt c (freshRun c) g
   prompt-start low = prompt-before c (freshRun c) g k (subst (Prompt c (freshRun c)) e low)
 
 module _ (c : Chain) (a : Accepted c) (h : List ℕ) (ok : Permitted c (freshRun c) h) where
+  -- "each queue holds what its producer's firings put in less what its consumer's took out", as a sum
   pub balance : (j : ℕ) → j < c .n → start (rowOf c j) + rowOf c j .produce * times j h ≡ heldAt (after c (freshRun c) h) j + rowOf c j .consume * times (suc j) h
   balance j l =
       rw (fresh-contents c a j l h ok, ← puts-times j h, ← takes-times j h)
       (one.balance (start (rowOf c j)) (rowOf c j .produce) (rowOf c j .threshold) (rowOf c j .consume) (events j h) (a .chain .rows j l .order) (fresh-allowed c a j l h ok))
 
+  -- "in no permitted order can a producer fire as often as 01 names for its queue unless that queue has held at least the minimum"
   pub naming : (j : ℕ) → j < c .n → namingOf (rowOf c j) ≤ times j h → HasHeld c h j (minimumOf (rowOf c j))
   naming j l enough =
       let row : SoundRow (rowOf c j) = a .chain .rows j l in
@@ -92,6 +100,7 @@ module _ (c : Chain) (a : Accepted c) (h : List ℕ) (ok : Permitted c (freshRun
         holds = rw (fresh-contents c a j l (k .before) (permitted-start c (k .before) (k .later) (k .parts) ok), k .sees) (m .holds);
       }
 
+  -- at the end of a prompt order no queue holds more than its minimum
   pub peak-end : Prompt c (freshRun c) h → (j : ℕ) → j < c .n → heldAt (after c (freshRun c) h) j ≤ minimumOf (rowOf c j)
   peak-end low j l =
       let row : SoundRow (rowOf c j) = a .chain .rows j l in
@@ -104,8 +113,10 @@ module _ (c : Chain) (a : Accepted c) (h : List ℕ) (ok : Permitted c (freshRun
   peak-at : (g k : List ℕ) → h ≡ g ++ k → (j : ℕ) → j < c .n → heldAt (after c (freshRun c) g) j ≤ minimumOf (rowOf c j)
   peak-at g k e j l = peak-end c a g (permitted-start c g k e ok) (prompt-start c g k e low) j l
 
+  -- and so at no moment
   pub peak : (j : ℕ) → j < c .n → (b : ℕ) → HasHeld c h j b → b ≤ minimumOf (rowOf c j)
   peak j l b m = le-trans (m .holds) (peak-at (m .before) (m .later) (m .parts) j l)
 
+  -- so where the producer has fired the naming count, the queue has held exactly the minimum
   pub reached : (j : ℕ) → j < c .n → namingOf (rowOf c j) ≤ times j h → HeldExactly c h j (minimumOf (rowOf c j))
   reached j l enough = at-some (λ g k e least. le-antisymm (peak-at g k e j l) least) (naming c a h ok j l enough)

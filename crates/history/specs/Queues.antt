@@ -3,7 +3,7 @@
 --   seen q i                 the events of queue q in one firing of N_i: a put, a take or none
 --   events q h               its events in the history h
 --   seen-cases               what holds of a put of N_q, of a take of N_(q+1) and of no event at any other node holds of each firing
---   times-again, -other      how often N_j fires in a history that begins with N_j, and with another node
+--   times-again, times-other how often N_j fires in a history that begins with N_j, and with another node
 --   events-append            histories one after the other
 --   puts-times, takes-times  its puts are the firings of N_q, its takes those of N_(q+1)
 --   Cut q h es               a beginning of h in which queue q sees es
@@ -41,6 +41,7 @@ unfolding seen
 events q [] = []
 events q (i ∷ h) = seen q i ++ events q h
 
+-- what holds in each of the three cases holds of each firing
 pub seen-cases : (q i : ℕ) (P : List Event → Type 0) → (i ≡ q → P (put ∷ [])) → (i ≡ suc q → P (take ∷ [])) → (i ≢ q → i ≢ suc q → P []) → P (seen q i)
 unfolding seen
 seen-cases q i P makes uses apart = by (eqb i q) refl (eqb i (suc q)) refl
@@ -50,20 +51,24 @@ seen-cases q i P makes uses apart = by (eqb i q) refl (eqb i (suc q)) refl
     by false e true f = uses (eqb-true i (suc q) f)
     by false e false f = apart (eqb-false i q e) (eqb-false i (suc q) f)
 
+-- N_j, in a history that begins with it
 pub times-again : (i j : ℕ) (h : List ℕ) → i ≡ j → times j (i ∷ h) ≡ suc (times j h)
 unfolding times
 times-again i j h e = simp (eq-eqb i j e)
 
+-- and in one that begins with another node
 pub times-other : (i j : ℕ) (h : List ℕ) → i ≢ j → times j (i ∷ h) ≡ times j h
 unfolding times
 times-other i j h n = simp (ne-eqb i j n)
 
 module _ (q : ℕ) where
+  -- the events of one history and then another
   pub events-append : (g h : List ℕ) → events q (g ++ h) ≡ events q g ++ events q h
   unfolding events
   events-append [] h = refl
   events-append (i ∷ g) h = ap (λ es. seen q i ++ es) (events-append g h) ∙ sym (append-assoc (seen q i) (events q g) (events q h))
 
+  -- its puts are its producer's firings
   pub puts-times : (h : List ℕ) → puts (events q h) ≡ times q h
   unfolding events times puts
   puts-times [] = refl
@@ -72,6 +77,7 @@ module _ (q : ℕ) where
       (λ e. puts-times h ∙ sym (times-other i q h (λ f. omega arith)))
       (λ m n. puts-times h ∙ sym (times-other i q h m))
 
+  -- its takes are its consumer's
   pub takes-times : (h : List ℕ) → takes (events q h) ≡ times (suc q) h
   unfolding events times takes
   takes-times [] = refl
@@ -102,6 +108,7 @@ beyond q i more es rest = seen-cases q i (λ l. l ++ more ≡ es ++ rest → (es
     one x [] e = inl refl
     one x (y ∷ es) e = inr (record { on = es; begins = cc; ends = cc })
 
+-- the first events of a history are all events of a beginning of it
 pub cut : (q : ℕ) (h : List ℕ) (es rest : List Event) → events q h ≡ es ++ rest → Cut q h es
 unfolding events
 cut q [] [] rest e = record { before = []; later = []; parts = refl; sees = refl }
@@ -119,12 +126,14 @@ allowed-append p τ c x [] more a b = b
 allowed-append p τ c x (put ∷ es) more a b = allowed-append p τ c (x + p) es more a b
 allowed-append p τ c x (take ∷ es) more a b = (a .0, allowed-append p τ c (x - c) es more (a .1) b)
 
+-- and of settled ones
 settled-append : (p τ c x : ℕ) (es more : List Event) → Settled p τ c x es → Settled p τ c (contents p c x es) more → Settled p τ c x (es ++ more)
 unfolding Settled contents
 settled-append p τ c x [] more a b = b
 settled-append p τ c x (put ∷ es) more a b = (a .0, settled-append p τ c (x + p) es more (a .1) b)
 settled-append p τ c x (take ∷ es) more a b = settled-append p τ c (x - c) es more a b
 
+-- firings keep a count for each node and a slot for each queue
 pub slots-after : {n : ℕ} (c : Chain) (s : Run) (h : List ℕ) → Slots n s → Slots n (after c s h)
 unfolding after
 slots-after c s [] k = k
@@ -142,17 +151,20 @@ module _ (c : Chain) (q : ℕ) (inside : q < c .n) where
       (λ e. rw e (omega (arith, held-input c s q (omega (arith, k .held)) (le-trans (m .0 .chain .rows q inside .order) (subst (Over c s) e (m .1 .1 .over))))))
       (λ n n′. held-other c s i q (λ e. n (sym e)) (λ e. n′ (sym e)))
 
+  -- its take, if it is one, finds τ
   fired-allowed : (s : Run) (i : ℕ) → Silent (fireRefusal c s i) → Allowed (rowOf c q .produce) (rowOf c q .threshold) (rowOf c q .consume) (heldAt s q) (seen q i)
   unfolding Allowed
   fired-allowed s i z = seen-cases q i (Allowed (rowOf c q .produce) (rowOf c q .threshold) (rowOf c q .consume) (heldAt s q))
       (λ e. tt) (λ e. (subst (Over c s) e (fire-accepts c s i .0 z .1 .1 .over), tt)) (λ n n′. tt)
 
+  -- its put, if it is one and the firing is prompt, finds less
   fired-settled : (s : Run) (i : ℕ) → (i < c .n → heldAt s i < rowOf c i .threshold)
       → Settled (rowOf c q .produce) (rowOf c q .threshold) (rowOf c q .consume) (heldAt s q) (seen q i)
   unfolding Settled
   fired-settled s i low = seen-cases q i (Settled (rowOf c q .produce) (rowOf c q .threshold) (rowOf c q .consume) (heldAt s q))
       (λ e. (subst (λ j. j < c .n → heldAt s j < rowOf c j .threshold) e low inside, tt)) (λ e. tt) (λ n n′. tt)
 
+  -- the queue holds what its events leave in it
   pub held-contents : (s : Run) (h : List ℕ) → Slots (c .n) s → Permitted c s h
       → heldAt (after c s h) q ≡ contents (rowOf c q .produce) (rowOf c q .consume) (heldAt s q) (events q h)
   unfolding after Permitted events contents
@@ -162,6 +174,7 @@ module _ (c : Chain) (q : ℕ) (inside : q < c .n) where
       ∙ ap (λ (x : ℕ). contents (rowOf c q .produce) (rowOf c q .consume) x (events q h)) (fired-contents s i k (ok .0))
       ∙ sym (contents-after (rowOf c q .produce) (rowOf c q .consume) (heldAt s q) (seen q i) (events q h))
 
+  -- each of its takes finds τ
   pub queue-allowed : (s : Run) (h : List ℕ) → Slots (c .n) s → Permitted c s h
       → Allowed (rowOf c q .produce) (rowOf c q .threshold) (rowOf c q .consume) (heldAt s q) (events q h)
   unfolding Permitted events Allowed
@@ -171,6 +184,7 @@ module _ (c : Chain) (q : ℕ) (inside : q < c .n) where
       (subst (λ (x : ℕ). Allowed (rowOf c q .produce) (rowOf c q .threshold) (rowOf c q .consume) x (events q h)) (fired-contents s i k (ok .0))
       (queue-allowed (fired c s i) h (slots-kept c s i k) (ok .1)))
 
+  -- and in a prompt history each of its puts finds less
   pub queue-settled : (s : Run) (h : List ℕ) → Slots (c .n) s → Permitted c s h → Prompt c s h
       → Settled (rowOf c q .produce) (rowOf c q .threshold) (rowOf c q .consume) (heldAt s q) (events q h)
   unfolding Permitted Prompt events Settled
