@@ -5,7 +5,7 @@
 --   feed-counts              P5: Feed's sink
 --   fed-mono, F-mono         more firings give no fewer
 --   F-feeds                  a node that has fired was fed by one that has
---   turnsOf c i              y_i/y: how many firings of the source N_i's cycle has; turns-source, -next: node by node
+--   turnsOf c i              y_i/y: how many firings of the source N_i's cycle has; turns-source, turns-next: node by node
 --   rates                    m times as many source firings more give N_i m times x_i firings more
 --   rate                     "for a node that has fired by k, k + y_i/y firings of the source give it x_i firings more"
 use mathlib.Core.Path.{_≡_, refl, sym, ap, _∙_}
@@ -37,9 +37,11 @@ pub feed-counts : map (λ k. F (factoryAnswer 0 .chain) k 1) (0 ∷ 1 ∷ 2 ∷ 
 unfolding F factoryAnswer
 feed-counts = refl
 
+-- more firings of the producer give no fewer of the consumer
 pub fed-mono : (c : Chain) (i N M : ℕ) → N ≤ M → fed c i N ≤ fed c i M
 fed-mono c i N M l = fires-mono _ _ _ _ (omega (arith, mul-le-mul-left (rowOf c i .produce) l))
 
+-- more firings of the source give no fewer of any node
 pub F-mono : (c : Chain) (k l i : ℕ) → k ≤ l → F c k i ≤ F c l i
 unfolding F
 F-mono c k l zero h = h
@@ -50,6 +52,7 @@ some-fed : (s p τ N : ℕ) → s < τ → τ ≤ s + p * N → 0 < N
 some-fed s p τ zero h l = absurd (omega (arith, mul-zero p))
 some-fed s p τ (suc N) h l = omega arith
 
+-- a node that has fired was fed by one that has
 pub F-feeds : {c : Chain} → Sound c → (k i : ℕ) → i < c .n → 0 < F c k (suc i) → 0 < F c k i
 unfolding F
 F-feeds {c} s k i l h = some-fed (start (rowOf c i)) (rowOf c i .produce) (rowOf c i .threshold) (F c k i) (s .rows i l .threshold .0) (fires-pos _ _ _ h)
@@ -63,13 +66,16 @@ abbrev pub turnsOf : Chain → ℕ → ℕ
 turnsOf c i = yOf c i / c .period
 
 module _ (c : Chain) (s : Sound c) where
+  -- the source's cycle is one firing of it
   pub turns-source : turnsOf c 0 ≡ 1
   unfolding yOf
   turns-source = ap (λ (n : ℕ). n / c .period) (sym (one-mul (c .period))) ∙ mul-div-cancel 1 (s .period .0)
 
+  -- the next node's cycle is so many of this node's cycles
   pub turns-next : (i : ℕ) → i < c .n → turnsOf c (suc i) ≡ stretchOf c i * turnsOf c i
   turns-next i l = ap (λ (n : ℕ). n / c .period) (y-stretch c s i l) ∙ mul-div-assoc (c .period) (stretchOf c i) (y-source c s i (omega arith))
 
+  -- m cycles
   pub rates : (i : ℕ) → i ≤ c .n → (k m : ℕ) → 0 < F c k i → F c (k + m * turnsOf c i) i ≡ F c k i + m * xOf c i
   unfolding F xOf
   rates zero l k m h = ap (λ (n : ℕ). k + m * n) turns-source
@@ -82,5 +88,6 @@ module _ (c : Chain) (s : Sound c) where
       ∙ ap (fires (rowOf c i .threshold) (rowOf c i .consume)) (more (start (rowOf c i)) _ _ q (xOf c i) (nextX (rowOf c i .produce) (rowOf c i .consume) (xOf c i)) (F c k i) m (next-balance _ _ _ hc))
       ∙ fires-shift _ _ _ (m * nextX (rowOf c i .produce) (rowOf c i .consume) (xOf c i)) hc h
 
+  -- "for a node that has fired by k, k + y_i/y firings of the source give it x_i firings more"
   pub rate : (i : ℕ) → i ≤ c .n → (k : ℕ) → 0 < F c k i → F c (k + yOf c i / c .period) i ≡ F c k i + xOf c i
   rate i l k h = ap (λ (n : ℕ). F c (k + n) i) (sym (one-mul (turnsOf c i))) ∙ rates i l k 1 h ∙ ap (λ (n : ℕ). F c k i + n) (one-mul (xOf c i))

@@ -4,7 +4,8 @@
 --   reached-slots            it has a count for each node and a slot for each queue
 --   reached-done             no node has work done
 --   reached-fired            a firing of a node that may fire leads to one
---   reached-along, -after    so does a permitted order, from any of them and from a fresh start
+--   reached-along, reached-after
+--                            so does a permitted order, from any of them and from a fresh start
 --   Calm c s i               no node after N_i is over threshold; of i = 0: only the source may fire
 --   fresh-calm               a fresh start is calm
 --   calm-counts              a calm state has each node's count by its producer's
@@ -60,6 +61,7 @@ fresh-past c j l = by-cases (decLt j 16)
 fresh-balance : (s p d N M x : ℕ) → N ≡ 0 → M ≡ 0 → x ≡ s → s + p * N ≡ x + d * M
 fresh-balance s p d N M x e f g = rw (e, f, g) (omega (arith, mul-zero p, mul-zero d))
 
+-- a fresh start is one
 pub reached-fresh : {c : Chain} → Sound c → Reached c (freshRun c)
 unfolding freshRun
 reached-fresh {c} k = record {
@@ -73,13 +75,15 @@ reached-fresh {c} k = record {
   held-past = fresh-past c;
 }
 
--- what is owed of one queue: its producer fires, its consumer fires, neither does
+-- what is owed of one queue: its producer fires
 put-owed : (s p τ d N M N′ M′ : ℕ) → N′ ≡ N + 1 → M′ ≡ M → (0 < M → d * M + τ ≤ s + p * N + d) → 0 < M′ → d * M′ + τ ≤ s + p * N′ + d
 put-owed s p τ d N M N′ M′ e f k = rw (e, f) (λ z. omega (arith, k z))
 
+-- its consumer fires
 take-owed : (s p τ d N M x N′ M′ : ℕ) → N′ ≡ N → M′ ≡ M + 1 → τ ≤ x → s + p * N ≡ x + d * M → 0 < M′ → d * M′ + τ ≤ s + p * N′ + d
 take-owed s p τ d N M x N′ M′ e f l b = rw (e, f) (λ z. omega (arith, b))
 
+-- neither fires
 keep-owed : (s p τ d N M N′ M′ : ℕ) → N′ ≡ N → M′ ≡ M → (0 < M → d * M + τ ≤ s + p * N + d) → 0 < M′ → d * M′ + τ ≤ s + p * N′ + d
 keep-owed s p τ d N M N′ M′ e f k = rw (e, f) k
 
@@ -88,12 +92,15 @@ over-at : (c : Chain) (s : Run) (i j : ℕ) → i ≡ suc j → Over c s i → r
 over-at c s i j e o = rw e at o
 
 module _ {c : Chain} {s : Run} (k : Sound c) (r : Reached c s) where
+  -- it has a count for each node and a slot for each queue
   pub reached-slots : Slots (c .n) s
   reached-slots = record { counts = omega (arith, r .wide, k .count .1); held = omega (arith, r .deep, k .count .1) }
 
+  -- no node has work done
   pub reached-done : (j : ℕ) → doneAt s j ≡ 0
   reached-done j = ap (λ (l : List ℕ). getD l j 0) (r .done) ∙ zeros 16 j
 
+  -- a firing keeps that no consumer is ahead of what its threshold allows
   owed-kept : (i : ℕ) → i ≤ c .n → Over c s i → (j : ℕ) → j < c .n → 0 < countAt (fired c s i) (suc j)
       → rowOf c j .consume * countAt (fired c s i) (suc j) + rowOf c j .threshold ≤ start (rowOf c j) + rowOf c j .produce * countAt (fired c s i) j + rowOf c j .consume
   owed-kept i m o j l = by-cases (ℕ-discrete j i)
@@ -102,6 +109,7 @@ module _ {c : Chain} {s : Run} (k : Sound c) (r : Reached c s) where
       (λ e. take-owed _ _ _ _ _ _ (heldAt s j) _ _ (count-other c s i j ne) (rw e (count-fired c s i (omega (arith, reached-slots .counts)))) (over-at c s i j (sym e) o) (r .balance j l))
       (λ ne′. keep-owed _ _ _ _ _ _ _ _ (count-other c s i j ne) (count-other c s i (suc j) ne′) (r .owed j l)))
 
+  -- a firing of a node that may fire leads to such a state
   pub reached-fired : (i : ℕ) → i ≤ c .n → Over c s i → Reached c (fired c s i)
   unfolding fired
   reached-fired i m o = record {
@@ -123,6 +131,7 @@ reached-along {c} {s} k (i ∷ h) r p =
     let may = fire-accepts c s i .0 (p .0) .1 .1 in
     reached-along k h (reached-fired k r i (may .node) (may .over)) (p .1)
 
+-- and so from a fresh start
 pub reached-after : {c : Chain} → Sound c → (h : List ℕ) → Permitted c (freshRun c) h → Reached c (after c (freshRun c) h)
 reached-after k h = reached-along k h (reached-fresh k)
 
@@ -130,10 +139,12 @@ reached-after k h = reached-along k h (reached-fresh k)
 abbrev pub Calm : Chain → Run → ℕ → Type 0
 Calm c s i = (j : ℕ) → i ≤ j → j < c .n → heldAt s j < rowOf c j .threshold
 
+-- at a fresh start no node but the source may fire
 pub fresh-calm : {c : Chain} → Sound c → (i : ℕ) → Calm c (freshRun c) i
 fresh-calm k i j m l = omega (arith, fresh-held k j l, k .rows j l .threshold .0)
 
 module _ {c : Chain} {s : Run} (k : Sound c) (r : Reached c s) where
+  -- a queue below threshold has its consumer's count by its producer's
   pub calm-counts : (i : ℕ) → Calm c s i → (j : ℕ) → i ≤ j → j < c .n → countAt s (suc j) ≡ fed c j (countAt s j)
   calm-counts i calm j m l = fires-is _ _ _ _ _ (k .rows j l .consume .0) (r .balance j l) (calm j m l) (r .owed j l)
 
@@ -143,6 +154,7 @@ module _ {c : Chain} {s : Run} (k : Sound c) (r : Reached c s) where
   counts calm zero l = refl
   counts calm (suc j) l = calm-counts 0 calm j (omega arith) l ∙ ap (fed c j) (counts calm j (omega arith))
 
+  -- a queue below threshold has room for one production within its minimum
   pub below-minimum : (j : ℕ) → j < c .n → heldAt s j < rowOf c j .threshold → heldAt s j + rowOf c j .produce ≤ minimumOf (rowOf c j)
   below-minimum j l low = room _ _ _ _ _ _ _ (k .rows j l .produce .0) (k .rows j l .threshold .0) (r .balance j l) low
 

@@ -2,7 +2,7 @@
 --   joined f r N             f at N, N + 1, .. N + r - 1, joined
 --   burst c m i N            what the firing of N_i that takes its count from N to N + 1 sets off, m queues being left towards the sink
 --   burst-exact              its minus is exact
---   schedule c k             the immediate run of k source firings, from a fresh start; schedule-none, -more: one source firing after the other
+--   schedule c k             the immediate run of k source firings, from a fresh start; schedule-none, schedule-more: one firing after the other
 --   feed-schedule            the order of Feed's run of 4, computed
 --   Next c s i               01's rule: N_i is the node nearest the sink that may fire
 --   next-one, HasNext, next-some
@@ -68,6 +68,7 @@ pub feed-schedule : schedule (factoryAnswer 0 .chain) 4 ≡ 0 ∷ 0 ∷ 1 ∷ 0 
 unfolding schedule factoryAnswer
 feed-schedule = refl
 
+-- the exact counts do not fall, so their difference is exact
 pub burst-exact : (c : Chain) (i N : ℕ) → fed c i N + (fed c i (suc N) - fed c i N) ≡ fed c i (suc N)
 burst-exact c i N = omega (arith, fed-mono c i N (suc N) (omega arith))
 
@@ -78,10 +79,12 @@ joined-last f zero N = append-nil (f N) ∙ ap f (sym (add-zero N))
 joined-last f (suc r) N =
     ap (λ (h : List ℕ). f N ++ h) (joined-last f r (suc N) ∙ ap (λ (m : ℕ). joined f r (suc N) ++ f m) (omega arith)) ∙ sym (append-assoc (f N) (joined f r (suc N)) (f (N + suc r)))
 
+-- no firing of the source, no firing
 pub schedule-none : (c : Chain) → schedule c 0 ≡ []
 unfolding schedule
 schedule-none c = refl
 
+-- one more firing of the source, with what it sets off
 pub schedule-more : (c : Chain) (k : ℕ) → schedule c (suc k) ≡ schedule c k ++ burst c (c .n) 0 k
 unfolding schedule
 schedule-more c k = joined-last (burst c (c .n) 0) k 0 ∙ ap (λ (m : ℕ). joined (burst c (c .n) 0) k 0 ++ burst c (c .n) 0 m) (zero-add k)
@@ -97,6 +100,7 @@ not-after : (c : Chain) (s : Run) (i j : ℕ) → Next c s i → Next c s j → 
 not-after c s i zero a b = omega arith
 not-after c s i (suc j) a b = by-cases (decLe (suc j) i) (λ l. l) (λ f. absurd (omega (arith, a .nearest j (omega arith) (b .node), b .over)))
 
+-- so there is at most one such node
 pub next-one : (c : Chain) (s : Run) (i j : ℕ) → Next c s i → Next c s j → i ≡ j
 next-one c s i j a b = omega (arith, not-after c s i j a b, not-after c s j i b a)
 
@@ -105,12 +109,14 @@ pub record HasNext (c : Chain) (s : Run) : Type 0 where
   pub at : ℕ
   pub next : Next c s at
 
+-- from N_m down, where no node after N_m may fire
 next-from : (c : Chain) (s : Run) (m : ℕ) → m ≤ c .n → Calm c s m → HasNext c s
 next-from c s zero l calm = record { at = 0; next = record { node = l; over = tt; nearest = calm } }
 next-from c s (suc m) l calm = by-cases (decLe (rowOf c m .threshold) (heldAt s m))
     (λ o. record { at = suc m; next = record { node = l; over = o; nearest = calm } })
     (λ f. next-from c s m (omega arith) (λ j a b. by-cases (ℕ-discrete m j) (λ e. rw (← e) (lt-of-not-le f)) (λ ne. calm j (omega arith) b)))
 
+-- there is one in every state
 pub next-some : (c : Chain) (s : Run) → HasNext c s
 next-some c s = next-from c s (c .n) (le-refl (c .n)) (λ j a b. absurd (omega arith))
 
@@ -119,11 +125,13 @@ unfoldable pub Follows : Chain → Run → List ℕ → Type 0
 Follows c s [] = Unit
 Follows c s (i ∷ h) = Next c s i × Follows c (fired c s i) h
 
+-- histories by the rule, one after the other
 pub follows-append : (c : Chain) (s : Run) (g h : List ℕ) → Follows c s g → Follows c (after c s g) h → Follows c s (g ++ h)
 unfolding after Follows
 follows-append c s [] h a b = b
 follows-append c s (i ∷ g) h a b = (a .0, follows-append c (fired c s i) g h (a .1) b)
 
+-- by the rule no node fires while the node that it feeds is over threshold
 pub follows-prompt : (c : Chain) (s : Run) (h : List ℕ) → Follows c s h → Prompt c s h
 unfolding Follows Prompt
 follows-prompt c s [] f = tt
@@ -138,6 +146,7 @@ pub record Ran (c : Chain) (s : Run) (i M : ℕ) (h : List ℕ) : Type 0 where
   pub same : (j : ℕ) → j < i → countAt (after c s h) j ≡ countAt s j
   pub ends : countAt (after c s h) i ≡ M
 
+-- one such run after another
 ran-more : (c : Chain) (s : Run) (i N M : ℕ) (g h : List ℕ) → Ran c s i N g → Ran c (after c s g) i M h → Ran c s i M (g ++ h)
 ran-more c s i N M g h a b = record {
   follows = follows-append c s g h (a .follows) (b .follows);
@@ -186,6 +195,7 @@ module _ (c : Chain) (k : Sound c) where
       (λ same. rw (← same) (now-below _ _ _ _ _ _ _ (k .rows i l .consume .0) (q .balance i l) e))
       (λ ne. calm j (omega arith) lt)
 
+  -- a burst is such a run: by what is left towards the sink
   pub burst-runs : (m i : ℕ) → i + m ≡ c .n → Bursts c i (burst c m i)
   unfolding burst after Follows
   burst-runs zero i e s N at reached calm over = record {
@@ -212,24 +222,30 @@ module _ (c : Chain) (k : Sound c) where
         ends = all .same i (omega arith) ∙ once;
       }
 
+  -- the whole schedule is such a run of the source
   schedule-runs : (n : ℕ) → Ran c (freshRun c) 0 n (schedule c n)
   unfolding schedule
   schedule-runs n =
       joined-runs c 0 (burst c (c .n) 0) (burst-runs (c .n) 0 (omega arith)) n 0 n (omega arith) (freshRun c) (fresh-count c 0) (reached-fresh k) (fresh-calm k 0) (λ t q same low. tt)
 
 module _ {c : Chain} (k : Sound c) (n : ℕ) where
+  -- the schedule is by the rule
   pub rule : Follows c (freshRun c) (schedule c n)
   rule = schedule-runs c k n .follows
 
+  -- it ends with no node but the source over threshold
   pub ends : Calm c (after c (freshRun c) (schedule c n)) 0
   ends = schedule-runs c k n .calm
 
+  -- its end is a state that firings lead to
   pub reached : Reached c (after c (freshRun c) (schedule c n))
   reached = schedule-runs c k n .reached
 
+  -- "exact counts": of each node
   pub counts-are-F : (j : ℕ) → j ≤ c .n → countAt (after c (freshRun c) (schedule c n)) j ≡ F c n j
   counts-are-F j l = counts k reached ends j l ∙ ap (λ (m : ℕ). F c m j) (schedule-runs c k n .ends)
 
+  -- and it has so many firings of the source
   pub source : times 0 (schedule c n) ≡ n
   source = omega (arith, counted-from c (freshRun c) (schedule c n) 0 (omega (arith, reached-fresh k .wide)), fresh-count c 0, schedule-runs c k n .ends)
 
@@ -256,6 +272,7 @@ follows-alike c s (i ∷ g) (j ∷ h) a b u v e =
     (follows-alike c (fired c s i) g h (a .1) (subst (λ (x : ℕ). Follows c (fired c s x) h) (sym same) (b .1))
     u (subst (λ (x : ℕ). Calm c (after c (fired c s x) h) 0) (sym same) v) (times-rest i j g h same e))
 
+-- so the schedule is the only history by the rule that ends with no node but the source over threshold
 pub unique : {c : Chain} → Sound c → (h : List ℕ) → Follows c (freshRun c) h → Calm c (after c (freshRun c) h) 0 → h ≡ schedule c (times 0 h)
 unique {c} k h f u = follows-alike c (freshRun c) h (schedule c (times 0 h)) f (rule k (times 0 h)) u (ends k (times 0 h)) (sym (source k (times 0 h)))
 
@@ -263,6 +280,7 @@ unique {c} k h f u = follows-alike c (freshRun c) h (schedule c (times 0 h)) f (
 abbrev pub Tight : Chain → Run → Type 0
 Tight c s = (j : ℕ) → j < c .n → heldAt s j ≤ minimumOf (rowOf c j)
 
+-- at a fresh start none does
 pub fresh-tight : {c : Chain} → Sound c → Tight c (freshRun c)
 fresh-tight {c} k j l =
     let q = k .rows j l in
@@ -273,6 +291,7 @@ fresh-tight {c} k j l =
 over-takes : (c : Chain) (s : Run) (i j : ℕ) → suc j ≡ i → Over c s i → rowOf c j .consume ≤ rowOf c j .threshold → rowOf c j .consume ≤ heldAt s j
 over-takes c s i j e o l = le-trans l (rw (← e) at o)
 
+-- and a firing by the rule keeps it so
 pub tight-fired : {c : Chain} {s : Run} {i : ℕ} → Sound c → Reached c s → Next c s i → Tight c s → Tight c (fired c s i)
 tight-fired {c} {s} {i} k r next tight j l = by-cases (ℕ-discrete j i)
     (λ e. rw e (omega (arith, held-output c s i (omega arith) (omega (arith, r .deep, k .count .1)), below-minimum k r i (omega arith) (next .nearest i (le-refl i) (omega arith)))))
@@ -280,6 +299,7 @@ tight-fired {c} {s} {i} k r next tight j l = by-cases (ℕ-discrete j i)
     (λ e. rw (← e) (omega (arith, held-input c s j (omega (arith, r .deep, k .count .1)) (over-takes c s i j e (next .over) (k .rows j l .order)), tight j l)))
     (λ ne′. omega (arith, held-other c s i j ne ne′, tight j l)))
 
+-- so manual firing accepts each firing by the rule, the capacities being enough and the counts within 32 bits
 pub follows-permitted : {c : Chain} → Accepted c → ((i : ℕ) → i < c .n → Enough c i) → (s : Run) (h : List ℕ) → Reached c s → Tight c s
     → ((j : ℕ) → j ≤ c .n → countAt (after c s h) j ≤ limit) → Follows c s h → Permitted c s h
 unfolding after Permitted Follows
