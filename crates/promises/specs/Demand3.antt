@@ -95,21 +95,26 @@ line-is c a j l =
     ap (λ (t : AnalysisAnswer). getD (t .analysis .queues) j noSize) (r .1) ∙ size-at c j (r .0 .chain .count .1) l
 
 module _ (c : Chain) (a : Accepted c) (j : ℕ) (l : j < c .n) where
+  -- the line, of an accepted chain
   line-of : line c j ≡ sizeOf c j
   line-of = line-is c (accepts-is c .1 a) j l
 
+  -- its b
   minimum-is : line c j .minimum ≡ minimumOf (rowOf c j)
   unfolding sizeBy
   minimum-is = ap (λ (q : QueueSize). q .minimum) line-of
 
+  -- its naming count
   by-is : line c j .by ≡ namingOf (rowOf c j)
   unfolding sizeBy
   by-is = ap (λ (q : QueueSize). q .by) line-of
 
+  -- its consumer's firings in a cycle
   x-is : line c j .x ≡ xOf c (suc j)
   unfolding sizeBy
   x-is = ap (λ (q : QueueSize). q .x) line-of
 
+  -- and the ticks of that cycle
   y-is : line c j .y ≡ yOf c (suc j)
   unfolding sizeBy
   y-is = ap (λ (q : QueueSize). q .y) line-of
@@ -129,12 +134,15 @@ follows-at c s (m ∷ g) i k p = follows-at c (fired c s m) g i k (p .1)
 
 -- what is fired by a permitted order's moments
 module _ (c : Chain) (h : List ℕ) (ok : Fires c h) where
+  -- the chain is accepted
   accepted : Accepted c
   accepted = fires-is c h .0 ok .0
 
+  -- each firing is one that manual firing accepts
   permits : Permitted c (freshRun c) h
   permits = fires-is c h .0 ok .1
 
+  -- the state is the one that the firings lead to
   state-is : replayAnswer c h .run ≡ after c (freshRun c) h
   state-is = fires-state c h ok
 
@@ -156,6 +164,7 @@ module _ (c : Chain) (h : List ℕ) (ok : Fires c h) where
   naming j l often =
       at-some (λ g k e m. rw (moment g k e, minimum-is c accepted j l) m) (histories.naming c accepted h permits j l (rw (by-is c accepted j l) at often))
 
+  -- nodes that fire at once, as a history has it
   prompts : AtOnce c h → Prompt c (freshRun c) h
   prompts low = prompt c (freshRun c) h (λ g k i e. rw (moment g (i ∷ k) e) at (low g k i e))
 
@@ -203,16 +212,20 @@ runs-is c k = (
 
 -- the immediate run of k source firings
 module _ (c : Chain) (k : ℕ) (ran : Runs c k) where
+  -- no check of the run speaks
   silent : immediateRefusal c k .number ≡ 0
   unfolding immediateAnswer answered
   silent = ran
 
+  -- the chain is accepted, its capacities are enough, and its counts are within the limit
   parts : (Accepted c × ((i : ℕ) → i < c .n → Enough c i)) × ((i : ℕ) → i ≤ c .n → F c k i ≤ most)
   parts = immediate-accepts c k .0 silent
 
+  -- so its fields are in their ranges
   sound : Sound c
   sound = parts .0 .0 .chain
 
+  -- the run ends in the state that its order leads to
   ends-in : immediateAnswer c k .run ≡ after c (freshRun c) (schedule c k)
   ends-in = immediate-ran c k silent
 

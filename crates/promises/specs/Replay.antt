@@ -43,6 +43,7 @@ Accepts c = analyseAnswer c .number ≡ 0
 abbrev pub Fires : Chain → List ℕ → Type 0
 Fires c h = replayAnswer c h .number ≡ 0
 
+-- which is every check of the analysis being silent
 pub accepts-is : (c : Chain) → Accepts c ↔ Accepted c
 unfolding analyseAnswer
 accepts-is c = analyse-accepts c
@@ -65,6 +66,7 @@ module _ (c : Chain) where
     pub permitted : Permitted c (r .run) h
     pub state : replayFrom c r h .run ≡ after c (r .run) h
 
+  -- firings of which none is refused went so
   went : (r : RunAnswer) (h : List ℕ) → replayFrom c r h .number ≡ 0 → Went r h
   unfolding replayFrom Permitted after fireAnswer answered
   went r [] z = record { began = z; permitted = tt; state = refl }
@@ -79,6 +81,7 @@ module _ (c : Chain) where
       })
       (λ n. absurd (n (ap (λ (a : RunAnswer). a .number) (sym (stopped r (i ∷ h) n)) ∙ z)))
 
+  -- and firings that manual firing permits are not refused
   goes : (r : RunAnswer) (h : List ℕ) → r .number ≡ 0 → Permitted c (r .run) h → replayFrom c r h .number ≡ 0
   unfolding replayFrom Permitted fireAnswer answered
   goes r [] z ok = z
@@ -91,6 +94,7 @@ module _ (c : Chain) where
   unfolding freshAnswer answered
   fresh-state z = simp (eq-eqb _ _ z)
 
+  -- a permitted order, by the chain and by each firing
   pub fires-is : (h : List ℕ) → Fires c h ↔ (Accepted c × Permitted c (freshRun c) h)
   unfolding replayAnswer freshAnswer answered
   fires-is h = (
@@ -98,9 +102,11 @@ module _ (c : Chain) where
     λ a. let z = analyse-accepts c .1 (a .0) in goes (freshAnswer c) h z (subst (λ (s : Run). Permitted c s h) (sym (fresh-state z)) (a .1)),
   )
 
+  -- its state is the one that its firings lead to
   pub fires-state : (h : List ℕ) → Fires c h → replayAnswer c h .run ≡ after c (freshRun c) h
   unfolding replayAnswer
   fires-state h z = let w : Went (freshAnswer c) h = went (freshAnswer c) h z in w .state ∙ ap (λ (s : Run). after c s h) (fresh-state (w .began))
 
+  -- what a permitted order begins with is one
   pub fires-before : (g h : List ℕ) → Fires c (g ++ h) → Fires c g
   fires-before g h z = let a = fires-is (g ++ h) .0 z in fires-is g .1 (a .0, permitted-before c (freshRun c) g h (a .1))
