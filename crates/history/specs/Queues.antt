@@ -17,7 +17,6 @@ use mathlib.Core.Bool.{Bool, true, false, cond}
 use mathlib.Core.Logic.{_≢_, _⊎_, inl, inr, ⊎-elim}
 use mathlib.Core.List.{List, [], _∷_, _++_, append-assoc}
 use Prim.Native.Nat.{ℕ, suc, _+_, _-_, _<_}
-use native.Mathlib.Nat.{le-trans}
 use native.Mathlib.Omega.{arith}
 use lib.Dec.{eqb}
 use borrow.Author.Tests.{eq-eqb, ne-eqb, eqb-true, eqb-false}
@@ -25,7 +24,7 @@ use Rattle.chain.specs.Refusals.{Silent}
 use Rattle.chain.specs.Record.{rowOf}
 use Rattle.chain.specs.declared.Chain.{Chain}
 use Rattle.state.specs.State.{heldAt}
-use Rattle.state.specs.Fired.{fired, Over, Slots, slots-kept, held-output, held-input, held-other}
+use Rattle.state.specs.Fired.{fired, Over, over-enough, Slots, slots-kept, held-output, held-input, held-other}
 use Rattle.state.specs.Fire.{fireRefusal, fire-accepts}
 use Rattle.state.specs.declared.Run.{Run}
 use Rattle.events.specs.Events.{Event, put, take, puts, takes, contents, contents-after, Allowed, Settled}
@@ -148,7 +147,7 @@ module _ (c : Chain) (q : ℕ) (inside : q < c .n) where
       let m = fire-accepts c s i .0 z in
       seen-cases q i (λ es. heldAt (fired c s i) q ≡ contents (rowOf c q .produce) (rowOf c q .consume) (heldAt s q) es)
       (λ e. rw e (held-output c s q inside (omega (arith, k .held))))
-      (λ e. rw e (omega (arith, held-input c s q (omega (arith, k .held)) (le-trans (m .0 .chain .rows q inside .order) (subst (Over c s) e (m .1 .1 .over))))))
+      (λ e. rw e (omega (arith, held-input c s q (omega (arith, k .held)) (over-enough (m .0 .chain) s q inside (subst (Over c s) e (m .1 .1 .over))))))
       (λ n n′. held-other c s i q (λ e. n (sym e)) (λ e. n′ (sym e)))
 
   -- its take, if it is one, finds τ

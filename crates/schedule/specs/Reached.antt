@@ -32,7 +32,7 @@ use Rattle.events.specs.Counts.{fires-is}
 use Rattle.events.specs.Peak.{room}
 use Rattle.sizing.specs.Sizes.{start, minimumOf}
 use Rattle.state.specs.State.{countAt, heldAt, doneAt, freshRun, zeros, fresh-count, fresh-held, same-run}
-use Rattle.state.specs.Fired.{fired, Over, Balance, Slots, counts-length, holds-length, count-fired, count-other, held-sink, balance-kept}
+use Rattle.state.specs.Fired.{fired, Over, over-enough, Balance, Slots, counts-length, holds-length, count-fired, count-other, held-sink, balance-kept}
 use Rattle.state.specs.Fire.{fire-accepts}
 use Rattle.state.specs.declared.Run.{Run}
 use Rattle.history.specs.History.{after, Permitted}
@@ -117,7 +117,7 @@ module _ {c : Chain} {s : Run} (k : Sound c) (r : Reached c s) where
     done = r .done;
     wide = counts-length c s i ∙ r .wide;
     deep = holds-length c s i ∙ r .deep;
-    balance = λ j l. balance-kept c s i j reached-slots l (λ e. omega (arith, over-at c s i j e o, k .rows j l .order)) (r .balance j l);
+    balance = λ j l. balance-kept c s i j reached-slots l (λ e. over-enough k s j l (over-at c s i j e o)) (r .balance j l);
     owed = owed-kept i m o;
     counts-past = λ j l. count-other c s i j (λ e. omega arith) ∙ r .counts-past j l;
     held-past = λ j l. held-sink c s i j l (λ e. omega arith) ∙ r .held-past j l;

@@ -37,7 +37,7 @@ use Rattle.sizing.specs.Sizes.{start, minimumOf, capacityOf}
 use Rattle.sizing.specs.Checks.{limit, Enough, enough-capacity}
 use Rattle.sizing.specs.Accepted.{Accepted}
 use Rattle.state.specs.State.{countAt, heldAt, freshRun, fresh-count, fresh-held}
-use Rattle.state.specs.Fired.{fired, Over, counts-length, count-fired, count-other, held-output, held-input, held-other}
+use Rattle.state.specs.Fired.{fired, Over, over-enough, counts-length, count-fired, count-other, held-output, held-input, held-other}
 use Rattle.state.specs.Fire.{fire-accepts}
 use Rattle.state.specs.declared.Run.{Run}
 use Rattle.history.specs.History.{times, after, Permitted, Prompt, after-append}
@@ -287,16 +287,12 @@ fresh-tight {c} k j l =
     let most = minimum-threshold (start (rowOf c j)) (rowOf c j .produce) (rowOf c j .threshold) (rowOf c j .consume) (q .threshold .0) (q .produce .0) in
     omega (arith, fresh-held k j l, most, q .threshold .0)
 
--- a node that is over threshold finds c
-over-takes : (c : Chain) (s : Run) (i j : ℕ) → suc j ≡ i → Over c s i → rowOf c j .consume ≤ rowOf c j .threshold → rowOf c j .consume ≤ heldAt s j
-over-takes c s i j e o l = le-trans l (rw (← e) at o)
-
 -- and a firing by the rule keeps it so
 pub tight-fired : {c : Chain} {s : Run} {i : ℕ} → Sound c → Reached c s → Next c s i → Tight c s → Tight c (fired c s i)
 tight-fired {c} {s} {i} k r next tight j l = by-cases (ℕ-discrete j i)
     (λ e. rw e (omega (arith, held-output c s i (omega arith) (omega (arith, r .deep, k .count .1)), below-minimum k r i (omega arith) (next .nearest i (le-refl i) (omega arith)))))
     (λ ne. by-cases (ℕ-discrete (suc j) i)
-    (λ e. rw (← e) (omega (arith, held-input c s j (omega (arith, r .deep, k .count .1)) (over-takes c s i j e (next .over) (k .rows j l .order)), tight j l)))
+    (λ e. rw (← e) (omega (arith, held-input c s j (omega (arith, r .deep, k .count .1)) (over-enough k s j l (rw (← e) at next .over)), tight j l)))
     (λ ne′. omega (arith, held-other c s i j ne ne′, tight j l)))
 
 -- so manual firing accepts each firing by the rule, the capacities being enough and the counts within 32 bits

@@ -2,13 +2,13 @@
 use mathlib.Core.Path.{_≡_, refl, sym, ap, _∙_}
 use Prim.Native.Nat.{_≤_}
 use Rattle.words.specs.Table.{tab}
-use Rattle.chain.specs.Refusals.{fine, first, Silent, silent-as, first-fine, or-left, or-right, or-silents}
+use Rattle.chain.specs.Refusals.{fine, first, Silent, silent-as, first-fine, or-left, or-right}
 use Rattle.chain.specs.Checks.{chainRefusal}
 use Rattle.chain.specs.Faults.{Few}
 use Rattle.chain.specs.declared.Refusal.{Refusal}
 use Rattle.chain.specs.declared.Chain.{Chain}
 use Rattle.sizing.specs.Sizes.{analysisOf, sized, sized-refused, sized-fine, refusedWith}
-use Rattle.sizing.specs.Checks.{sizeChecks, analyseChecks, analyseRefusal, analyseAnswer, capacityTest, capacityCheck, runAnswer, shortIn, short-is-capacity, analyse-parts, run-parts}
+use Rattle.sizing.specs.Checks.{sizeChecks, analyseRefusal, analyseAnswer, capacityTest, capacityCheck, runAnswer, shortIn, short-is-capacity, analyse-parts, run-parts}
 use Rattle.sizing.specs.Accepted.{analysed}
 use Rattle.sizing.specs.declared.AnalysisAnswer.{AnalysisAnswer}
 

@@ -1,8 +1,6 @@
 -- The answer of manual firing, as its code puts it together.
 use mathlib.Core.Path.{_≡_, refl, sym, ap, _∙_}
-use mathlib.Core.Bool.{Bool, true, false, cond}
 use Prim.Native.Nat.{ℕ}
-use lib.Dec.{eqb}
 use Rattle.chain.specs.Refusals.{refused, first, Silent, silent-as, first-fine, or-left, or-right}
 use Rattle.chain.specs.Checks.{chainRefusal}
 use Rattle.chain.specs.declared.Refusal.{Refusal}
@@ -11,7 +9,7 @@ use Rattle.sizing.specs.Sizes.{sized}
 use Rattle.sizing.specs.Checks.{sizeChecks, analyseRefusal, analyseAnswer, analyse-parts}
 use Rattle.sizing.specs.Accepted.{analysed}
 use Rattle.sizing.specs.declared.AnalysisAnswer.{AnalysisAnswer}
-use Rattle.state.specs.State.{emptyRun, freshRun, fresh-empty, answered, answered-refused, answered-fine, refusedWith}
+use Rattle.state.specs.State.{emptyRun, fresh-empty, answered, answered-refused, answered-fine, refusedWith}
 use Rattle.state.specs.Fired.{fired}
 use Rattle.state.specs.Checks.{stateCheck, Analysed}
 use Rattle.state.specs.Fire.{freshAnswer, fresh-state, nodeChecks, fireChecks, fireRefusal, fireAnswer, Firing, fire-parts, firing-is}
