@@ -178,7 +178,7 @@ settle-fire-requires :
 settle-fire-requires t c κs =
     let k = c .before .before .before .before .before .pre in
     let g = c .before .before .before .before .loop .inv in
-    (omega (arith, k .0, settle-size (k .1), going-size g (k .1)), going-fire g (c .before .if1 .taken) (k .1))
+    (omega (arith, k .0, settle-size (k .1), going-size g (k .1)), going-fire g (omega (arith, c .before .if1 .taken)) (k .1))
 
 settle-loop-less :
     (t : ℕ) →
@@ -188,7 +188,7 @@ settle-loop-less :
     settle.Post
     settle-Inv-loop
     settle-μ-loop
-settle-loop-less t c = going-less (c .before .before .before .before .before .loop .inv) (c .before .before .if1 .taken) (c .fire .ensures) (c .before .before .before .before .before .before .pre .1)
+settle-loop-less t c = going-less (c .before .before .before .before .before .loop .inv) (omega (arith, c .before .before .if1 .taken)) (c .fire .ensures) (c .before .before .before .before .before .before .pre .1)
 
 settle-loop-again :
     (t : ℕ) →
@@ -198,7 +198,7 @@ settle-loop-again :
     settle.Post
     settle-Inv-loop
     settle-μ-loop
-settle-loop-again t c = going-more (c .before .before .before .before .before .loop .inv) (c .before .before .if1 .taken) (c .fire .ensures)
+settle-loop-again t c = going-more (c .before .before .before .before .before .loop .inv) (omega (arith, c .before .before .if1 .taken)) (c .fire .ensures)
 
 settle-returns :
     (t : ℕ) →
