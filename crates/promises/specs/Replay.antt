@@ -18,7 +18,7 @@ use native.Mathlib.Decide.{ℕ-discrete}
 use lib.Dec.{eqb}
 use borrow.Author.Tests.{eq-eqb, ne-eqb}
 use Rattle.ardenquill.specs.Analyses.{analyseAnswer, Accepted, analyse-accepts}
-use Rattle.ardenquill.specs.Runs.{freshRun, answered, freshAnswer, fired, fireAnswer, fire-accepted}
+use Rattle.ardenquill.specs.Runs.{freshRun, answered, freshAnswer, fresh-state, fired, fireAnswer, fire-accepted}
 use Rattle.ardenquill.specs.Histories.{after, Permitted, permitted-before}
 use Rattle.chain.specs.declared.Chain.{Chain}
 use Rattle.state.specs.declared.Run.{Run}
@@ -89,23 +89,18 @@ module _ (c : Chain) where
       ap (λ (a : RunAnswer). a .number) (goes-on r i h z)
       ∙ goes (fireAnswer c (r .run) i) h (ok .0) (subst (λ (s : Run). Permitted c s h) (sym (fire-accepted c (r .run) i (ok .0))) (ok .1))
 
-  -- a fresh start that is not refused
-  fresh-state : freshAnswer c .number ≡ 0 → freshAnswer c .run ≡ freshRun c
-  unfolding freshAnswer answered
-  fresh-state z = simp (eq-eqb _ _ z)
-
   -- a permitted order, by the chain and by each firing
   pub fires-is : (h : List ℕ) → Fires c h ↔ (Accepted c × Permitted c (freshRun c) h)
   unfolding replayAnswer freshAnswer answered
   fires-is h = (
-    λ z. let w : Went (freshAnswer c) h = went (freshAnswer c) h z in (analyse-accepts c .0 (w .began), subst (λ (s : Run). Permitted c s h) (fresh-state (w .began)) (w .permitted)),
-    λ a. let z = analyse-accepts c .1 (a .0) in goes (freshAnswer c) h z (subst (λ (s : Run). Permitted c s h) (sym (fresh-state z)) (a .1)),
+    λ z. let w : Went (freshAnswer c) h = went (freshAnswer c) h z in (analyse-accepts c .0 (w .began), subst (λ (s : Run). Permitted c s h) (fresh-state c (w .began)) (w .permitted)),
+    λ a. let z = analyse-accepts c .1 (a .0) in goes (freshAnswer c) h z (subst (λ (s : Run). Permitted c s h) (sym (fresh-state c z)) (a .1)),
   )
 
   -- its state is the one that its firings lead to
   pub fires-state : (h : List ℕ) → Fires c h → replayAnswer c h .run ≡ after c (freshRun c) h
-  unfolding replayAnswer
-  fires-state h z = let w : Went (freshAnswer c) h = went (freshAnswer c) h z in w .state ∙ ap (λ (s : Run). after c s h) (fresh-state (w .began))
+  unfolding replayAnswer freshAnswer answered
+  fires-state h z = let w : Went (freshAnswer c) h = went (freshAnswer c) h z in w .state ∙ ap (λ (s : Run). after c s h) (fresh-state c (w .began))
 
   -- what a permitted order begins with is one
   pub fires-before : (g h : List ℕ) → Fires c (g ++ h) → Fires c g

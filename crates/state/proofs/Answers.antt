@@ -1,6 +1,8 @@
 -- The answer of manual firing, as its code puts it together.
 use mathlib.Core.Path.{_≡_, refl, sym, ap, _∙_}
+use mathlib.Core.Logic.{by-cases}
 use Prim.Native.Nat.{ℕ}
+use native.Mathlib.Decide.{ℕ-discrete}
 use Rattle.chain.specs.Refusals.{refused, first, Silent, silent-as, first-fine, or-left, or-right}
 use Rattle.chain.specs.Checks.{chainRefusal}
 use Rattle.chain.specs.declared.Refusal.{Refusal}
@@ -12,7 +14,7 @@ use Rattle.sizing.specs.declared.AnalysisAnswer.{AnalysisAnswer}
 use Rattle.state.specs.State.{emptyRun, fresh-empty, answered, answered-refused, answered-fine, refusedWith}
 use Rattle.state.specs.Fired.{fired}
 use Rattle.state.specs.Checks.{stateCheck, Analysed}
-use Rattle.state.specs.Fire.{freshAnswer, fresh-state, nodeChecks, fireChecks, fireRefusal, fireAnswer, Firing, fire-parts, firing-is}
+use Rattle.state.specs.Fire.{freshAnswer, fresh-state, fresh-refused, nodeChecks, fireChecks, fireRefusal, fireAnswer, Firing, fire-parts, firing-is}
 use Rattle.state.specs.declared.Run.{Run}
 
 -- a fresh start: what the analysis is refused with, and an empty state either way
@@ -20,7 +22,7 @@ pub fresh-made : (c : Chain) {a : AnalysisAnswer} → a ≡ analyseAnswer c → 
 unfolding freshAnswer answered analyseAnswer sized
 fresh-made c e =
     ap (λ (b : AnalysisAnswer). refusedWith (b .number) (b .place) emptyRun) e
-    ∙ ap (refusedWith (analyseRefusal c .number) (analyseRefusal c .place)) (fresh-empty c ∙ sym (fresh-state c))
+    ∙ ap (refusedWith (analyseRefusal c .number) (analyseRefusal c .place)) (by-cases (ℕ-discrete (analyseRefusal c .number) 0) (λ z. fresh-empty c ∙ sym (fresh-state c z)) (λ n. sym (fresh-refused c n)))
 
 module _ (c : Chain) (s : Run) (i : ℕ) where
   -- a refusal gives the state back as it was

@@ -1,5 +1,5 @@
 -- Manual firing (01, Firing), and what a call that gives a state answers.
---   freshAnswer c              the answer of a fresh start: 2, 4, 5, 6, 7, then the empty state (fresh-refusal, fresh-state)
+--   freshAnswer c              the answer of a fresh start: 2, 4, 5, 6, 7, then the empty state (fresh-refusal, fresh-state, fresh-refused)
 --   nodeChecks c s i           9, 11 and 12: the checks of a firing of N_i in a state that 17 has passed
 --   fireChecks c s i           the checks of manual firing, in order, never 8
 --   fireRefusal c s i, fireAnswer c s i
@@ -13,7 +13,6 @@
 --   fire-accepted, fire-refused
 --                              the state that it gives back
 use mathlib.Core.Path.{_≡_, refl, sym, _∙_}
-use mathlib.Core.Bool.{Bool, true, false, cond}
 use mathlib.Core.Logic.{_↔_, _≢_, _⊎_, inl, ⊎-elim, Iff·trans, Iff·and, Iff·rfl}
 use mathlib.Core.List.{List, [], _∷_, _++_}
 use Prim.Native.Nat.{ℕ, _+_, _*_, _≤_, _<_}
@@ -30,7 +29,7 @@ use Rattle.sizing.specs.Load.{busyIn}
 use Rattle.sizing.specs.Sizes.{capacityOf}
 use Rattle.sizing.specs.Checks.{limit, analyseChecks, analyseRefusal, rateCheck, rate-only, load-only}
 use Rattle.sizing.specs.Accepted.{Accepted, analyse-accepts}
-use Rattle.state.specs.State.{countAt, heldAt, emptyRun, freshRun, fresh-empty, answered}
+use Rattle.state.specs.State.{countAt, heldAt, emptyRun, freshRun, answered}
 use Rattle.state.specs.Fired.{fired, Over, May}
 use Rattle.state.specs.Checks as own
 use Rattle.state.specs.Checks.{stateCheck, countCheck, overCheck, cramped, roomCheck, FirstBroken, StateSound, state-exact, over-exact, room-exact, state-silent, over-silent, room-silent, state-only, over-only, room-only}
@@ -67,19 +66,19 @@ pub record Firing (c : Chain) (s : Run) (i : ℕ) : Type 0 where
   pub state : StateSound c s
   pub may : May c s i
 
--- a fresh start is refused as the analysis is, and gives the empty state either way
+-- a fresh start is refused as the analysis is; it gives the state that each queue starts with, or an empty one
 module _ (c : Chain) where
   pub fresh-refusal : refused (freshAnswer c .number) (freshAnswer c .place) ≡ analyseRefusal c
   unfolding freshAnswer answered
   fresh-refusal = refl
 
-  pub fresh-state : freshAnswer c .run ≡ freshRun c
+  pub fresh-state : Silent (analyseRefusal c) → freshAnswer c .run ≡ freshRun c
   unfolding freshAnswer answered
-  fresh-state = by (eqb (analyseRefusal c .number) 0)
-    where
-      by : (b : Bool) → cond b (freshRun c) emptyRun ≡ freshRun c
-      by true = refl
-      by false = fresh-empty c
+  fresh-state z = simp (eq-eqb _ _ z)
+
+  pub fresh-refused : (Silent (analyseRefusal c) → ⊥) → freshAnswer c .run ≡ emptyRun
+  unfolding freshAnswer answered
+  fresh-refused n = simp (ne-eqb _ _ n)
 
 module _ (c : Chain) (s : Run) (i : ℕ) where
   pub fire-parts : fireRefusal c s i ≡ orElse (analyseRefusal c) (orElse (stateCheck c s) (first (nodeChecks c s i)))
