@@ -184,9 +184,11 @@ module _ (c : Chain) (h : List ℕ) (ok : Fires c h) where
   pub never-full : (i : ℕ) → Ample c i → LowAt c (replayAnswer c h .run) i → fireAnswer c (replayAnswer c h .run) i .number ≡ 12 → ⊥
   unfolding fireAnswer answered
   never-full i big low e =
-      let r : Reached c (replayAnswer c h .run) = rw state-is (reached-after (accepted .chain) h permits) in
-      let says : fireRefusal c (replayAnswer c h .run) i ≡ refused 12 (fireRefusal c (replayAnswer c h .run) i .place) = λ t. record { number = e t; place = fireRefusal c (replayAnswer c h .run) i .place } in
-      let f = fire-12 c (replayAnswer c h .run) i _ .0 says .1 .0 in
+      let s : Run = replayAnswer c h .run in
+      let r : Reached c s = rw state-is (reached-after (accepted .chain) h permits) in
+      let L : ℕ = fireRefusal c s i .place in
+      let says : fireRefusal c s i ≡ refused 12 L = λ t. record { number = e t; place = L } in
+      let f = fire-12 c s i L .0 says .1 .0 in
       let cap : minimumOf (rowOf c i) ≤ capacityOf (rowOf c i) = enough-capacity c i (rw (minimum-is c accepted i (f .0)) at big) in
       omega (arith, below-minimum (accepted .chain) r i (f .0) (low (f .0)), cap, f .1)
 
@@ -261,7 +263,9 @@ module _ (c : Chain) (k : ℕ) (ran : Runs c k) where
   -- "clock and work done stay 0", and the slots past n are 0
   pub at-rest : ((immediateAnswer c k .run .clock ≡ 0) × (immediateAnswer c k .run .done ≡ replicate 16 0))
       × (((i : ℕ) → c .n < i → countAt (immediateAnswer c k .run) i ≡ 0) × ((j : ℕ) → c .n ≤ j → heldAt (immediateAnswer c k .run) j ≡ 0))
-  at-rest = let r : Reached c (after c (freshRun c) (schedule c k)) = immediate.reached sound k in rw ends-in ((r .clock, r .done), (r .counts-past, r .held-past))
+  at-rest =
+      let r : Reached c (after c (freshRun c) (schedule c k)) = immediate.reached sound k in
+      rw ends-in ((r .clock, r .done), (r .counts-past, r .held-past))
 
   -- it ends with no node but the source over threshold
   pub run-low : Low c (immediateAnswer c k .run)
@@ -288,7 +292,9 @@ module _ (c : Chain) (j : ℕ) (l : j < c .n) where
   -- and of y ticks
   pub rate : (k : ℕ) → Runs c k → Runs c (k + line c j .y / c .period) → 0 < countAt (immediateAnswer c k .run) (suc j)
       → countAt (immediateAnswer c (k + line c j .y / c .period) .run) (suc j) ≡ countAt (immediateAnswer c k .run) (suc j) + line c j .x
-  rate k ran more has = let one : 1 * (line c j .y / c .period) ≡ line c j .y / c .period = one-mul _ in rw (one, one-mul (line c j .x)) at (rates k 1 ran (rw one more) has)
+  rate k ran more has =
+      let one : 1 * (line c j .y / c .period) ≡ line c j .y / c .period = one-mul _ in
+      rw (one, one-mul (line c j .x)) at (rates k 1 ran (rw one more) has)
 
   -- and y is a whole number of periods
   pub rate-exact : Accepts c → c .period ∣ line c j .y
