@@ -29,7 +29,6 @@ use Rattle.chain.specs.Checks.{count-only, range-only, order-only}
 use Rattle.sizing.specs.Checks.{Enough, runChecks, runRefusal, rate-only, load-only, capacity-only}
 use Rattle.sizing.specs.Accepted.{Accepted, run-accepts}
 use Rattle.state.specs.State.{emptyRun, freshRun, answered}
-use Rattle.state.specs.declared.Run.{Run}
 use Rattle.state.specs.declared.RunAnswer.{RunAnswer}
 use Rattle.history.specs.History.{after}
 use Rattle.schedule.specs.Counts.{F}

@@ -10,7 +10,7 @@
 --   fire-firing              such a firing is one that manual firing accepts
 --   fire-settle, -done, -sink, settle-none, -fire, -more, -less, -done
 --                            the steps
-use mathlib.Core.Path.{_≡_, refl, ap, subst, _∙_}
+use mathlib.Core.Path.{_≡_, refl, subst, _∙_}
 use mathlib.Core.Logic.{⊎-elim}
 use Prim.Native.Nat.{ℕ, suc, _+_, _*_, _≤_, _<_}
 use native.Mathlib.Nat.{le-trans, eq-or-lt-of-le}

@@ -5,7 +5,7 @@
 --                              17 of queue i, and of the state: the lowest such queue
 --   spent c s i, countCheck c s i
 --                              9 of a manual firing of N_i: its count cannot grow
---   over c s i                 whether N_i may fire
+--   over c s i, over-true      whether N_i may fire
 --   idle c s i, overCheck c s i
 --                              11: there is no such node, or it may not fire
 --   cramped c s i, roomCheck c s i
