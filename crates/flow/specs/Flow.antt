@@ -30,7 +30,7 @@ use Rattle.state.specs.Fired.{fired, over-enough, count-fired, count-other, hel
 use Rattle.state.specs.Fire.{Firing}
 use Rattle.state.specs.declared.Run.{Run}
 
--- where each number stands: p, τ and c of queue j, N_j's count, what queue j holds, and n; the word before n is 0, as what the sink of 16 queues would put out
+-- where each number stands: p, τ and c of queue j, N_j's count, what queue j holds, and n; word 81 is not used, so that 65 + i is n's place for no node i
 abbrev pub produceIn : List ℕ → ℕ → ℕ
 produceIn l j = getD l j 0
 

@@ -9,7 +9,7 @@ use chain::Chain;
 use state::Run;
 
 // How many words a flow has, and where they lie: each queue's produce, threshold and consume, each node's count, what each
-// queue holds, and the number of queues.
+// queue holds, and the number of queues. The word before the last is not used, so that HELD + i is SIZE for no node i.
 pub const LENGTH: usize = 83;
 
 const PRODUCE: usize = 0;

@@ -3,6 +3,9 @@
 --   h                        a list of nodes, fired by manual firing in this order from a fresh start: Fires c h where each is accepted, and then
 --                            replayAnswer c h .run is the state (Replay)
 --   k, schedule c k          a number of source firings, and the immediate run's order
+--   start q, times i h, F c k i, most
+--                            what a queue starts with, 0; how often N_i stands in h; how often N_i fires in that run; the largest count of one, 1,000,000
+--   Accepts c, Next c s i    analyse does not refuse c; N_i is the node nearest the sink that may fire in s, or the source where no other may
 --   line c j                 what analyse answers of queue j: minimum is b, by the naming count, x and y its consumer's rate
 --   Ample c i                queue i's capacity, if written, is not below its reported minimum
 --   Low c s, LowAt c s i     in the state s no queue's consumer is over threshold, so that only the source may fire; queue i's is not

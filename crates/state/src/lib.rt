@@ -100,7 +100,7 @@ impl Run {
     }
 }
 
-// The answer of a refused call: the refusal, with the state that is handed back.
+// The answer of a refused call: the refusal, with the state that the call gives then.
 pub fn given_back(number: u32, place: u32, run: Run) -> RunAnswer
     ensures { λ r. ⌜ r ≡ refusedWith number place run ⌝ }
 {
@@ -146,7 +146,7 @@ fn is_broken(q: Queue, capacity: u32, e: u32, made: u32, used: u32, held: u32, d
     (given != kept) | (capacity < held) | (e <= done)
 }
 
-// 9, 11 and 12 of a firing in a state that passes 17.
+// 9, 11 and 12 of a firing.
 fn node_check(chain: Chain, analysis: Analysis, run: Run, node: u32) -> Refusal
     requires { ⌜ Analysed chain analysis ⌝ }
     ensures { λ r. ⌜ r ≡ first (nodeChecks chain run node) ⌝ }
