@@ -13,13 +13,13 @@
 use mathlib.Core.Path.{_≡_, refl, subst, _∙_}
 use mathlib.Core.Logic.{⊎-elim}
 use Prim.Native.Nat.{ℕ, suc, _+_, _*_, _≤_, _<_}
-use native.Mathlib.Nat.{le-trans, eq-or-lt-of-le}
+use native.Mathlib.Nat.{eq-or-lt-of-le}
 use native.Mathlib.Omega.{arith}
 use Rattle.chain.specs.Record.{rowOf}
 use Rattle.chain.specs.Sound.{Sound}
 use Rattle.chain.specs.declared.Chain.{Chain}
-use Rattle.sizing.specs.Sizes.{start, minimumOf, capacityOf}
-use Rattle.sizing.specs.Checks.{Enough, enough-capacity}
+use Rattle.sizing.specs.Sizes.{start}
+use Rattle.sizing.specs.Checks.{Enough}
 use Rattle.sizing.specs.Accepted.{Accepted}
 use Rattle.events.specs.Counts.{fires-reach}
 use Rattle.state.specs.State.{countAt, heldAt}
@@ -27,8 +27,8 @@ use Rattle.state.specs.Fired.{fired, Over, count-fired, count-other, held-other
 use Rattle.state.specs.Fire.{Firing}
 use Rattle.state.specs.declared.Run.{Run}
 use Rattle.schedule.specs.Counts.{F, fed, fed-mono}
-use Rattle.schedule.specs.Reached.{Reached, Calm, reached-fired, reached-done, below-minimum}
-use Rattle.schedule.specs.Schedule.{Tight, tight-fired}
+use Rattle.schedule.specs.Reached.{Reached, Calm, reached-fired}
+use Rattle.schedule.specs.Schedule.{Next, Tight, tight-fired, next-firing}
 use Rattle.immediate.specs.Checks.{most}
 
 -- a chain that may run, and counts that stay within the limit
@@ -85,26 +85,17 @@ module _ {k : ℕ} {c : Chain} {s : Run} {i : ℕ} (a : FireAsk k c s i) where
   sound : Sound c
   sound = a .bounds .accepted .chain
 
-  -- each capacity in force is at least the minimum
-  capacities : (j : ℕ) → j < c .n → minimumOf (rowOf c j) ≤ capacityOf (rowOf c j)
-  capacities j l = enough-capacity c j (a .bounds .enough j l)
+  -- 01's rule: of the nodes that may fire, N_i is the one nearest the sink
+  next : Next c s i
+  next = record { node = a .node; over = a .over; nearest = λ j le l. a .calm j (omega arith) l }
 
   pub fire-firing : Firing c s i
-  fire-firing = record {
-    chain = a .bounds .accepted;
-    state = λ j l. ((a .held .reached .balance j l, le-trans (a .held .tight j l) (capacities j l)), omega (arith, reached-done sound (a .held .reached) j, sound .work j l .0));
-    may = record {
-      node = a .node;
-      countable = λ e. omega (arith, fire-word);
-      over = a .over;
-      room = λ l. le-trans (below-minimum sound (a .held .reached) i l (a .calm i (omega arith) l)) (capacities i l);
-    };
-  }
+  fire-firing = next-firing (a .bounds .accepted) (a .bounds .enough) (a .held .reached) (a .held .tight) next (λ e. omega (arith, fire-word))
 
   after : Held c (fired c s i)
   after = record {
     reached = reached-fired sound (a .held .reached) i (a .node) (a .over);
-    tight = tight-fired sound (a .held .reached) (record { node = a .node; over = a .over; nearest = a .calm }) (a .held .tight);
+    tight = tight-fired sound (a .held .reached) next (a .held .tight);
   }
 
   once : countAt (fired c s i) i ≡ countAt s i + 1

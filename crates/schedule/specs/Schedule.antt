@@ -16,11 +16,11 @@
 --   follows-alike, unique    no other history by the rule does so
 --   follows-prompt           by the rule no node fires while the node that it feeds is over threshold
 --   Tight c s                no queue holds more than its minimum; fresh-tight, tight-fired: by the rule none ever does
---   follows-permitted, permitted
+--   next-firing, follows-permitted, permitted
 --                            so manual firing accepts each of its firings in turn, the capacities being enough and the counts within the limit
 --   any-order                any permitted order that ends so leads to the schedule's state
 use mathlib.Core.Path.{_≡_, refl, sym, ap, ap₂, subst, _∙_}
-use mathlib.Core.Logic.{by-cases}
+use mathlib.Core.Logic.{_≢_, by-cases}
 use mathlib.Core.List.{List, [], _∷_, _++_, append-nil, append-assoc}
 use Prim.Native.Nat.{ℕ, zero, suc, _+_, _-_, _*_, _≤_, _<_}
 use native.Mathlib.Nat.{le-refl, le-trans, lt-of-not-le, add-zero, zero-add}
@@ -38,7 +38,7 @@ use Rattle.sizing.specs.Checks.{limit, Enough, enough-capacity}
 use Rattle.sizing.specs.Accepted.{Accepted}
 use Rattle.state.specs.State.{countAt, heldAt, freshRun, fresh-count, fresh-held}
 use Rattle.state.specs.Fired.{fired, Over, over-enough, counts-length, count-fired, count-other, held-output, held-input, held-other}
-use Rattle.state.specs.Fire.{fire-accepts}
+use Rattle.state.specs.Fire.{Firing, firing-is}
 use Rattle.state.specs.declared.Run.{Run}
 use Rattle.history.specs.History.{times, after, Permitted, Prompt, after-append}
 use Rattle.history.specs.Queues.{times-again, times-other}
@@ -295,7 +295,22 @@ tight-fired {c} {s} {i} k r next tight j l = by-cases (ℕ-discrete j i)
     (λ e. rw (← e) (omega (arith, held-input c s j (omega (arith, r .deep, k .count .1)) (over-enough k s j l (rw (← e) at next .over)), tight j l)))
     (λ ne′. omega (arith, held-other c s i j ne ne′, tight j l)))
 
--- so manual firing accepts each firing by the rule, the capacities being enough and the counts within 32 bits
+-- so manual firing accepts a firing by the rule, the capacities being enough and the count one that can grow
+pub next-firing : {c : Chain} {s : Run} {i : ℕ} → Accepted c → ((j : ℕ) → j < c .n → Enough c j) → Reached c s → Tight c s → Next c s i → countAt s i ≢ limit → Firing c s i
+next-firing {c} {s} {i} a enough r tight next grows =
+    let cap : (j : ℕ) → j < c .n → minimumOf (rowOf c j) ≤ capacityOf (rowOf c j) = λ j l. enough-capacity c j (enough j l) in
+    record {
+      chain = a;
+      state = λ j l. ((r .balance j l, le-trans (tight j l) (cap j l)), omega (arith, reached-done (a .chain) r j, a .chain .work j l .0));
+      may = record {
+        node = next .node;
+        countable = grows;
+        over = next .over;
+        room = λ l. le-trans (below-minimum (a .chain) r i l (next .nearest i (le-refl i) l)) (cap i l);
+      };
+    }
+
+-- and each firing of a history by the rule, the counts at its end being words
 pub follows-permitted : {c : Chain} → Accepted c → ((i : ℕ) → i < c .n → Enough c i) → (s : Run) (h : List ℕ) → Reached c s → Tight c s
     → ((j : ℕ) → j ≤ c .n → countAt (after c s h) j ≤ limit) → Follows c s h → Permitted c s h
 unfolding after Permitted Follows
@@ -304,20 +319,8 @@ follows-permitted {c} a enough s (i ∷ h) r tight most f =
     let k : Sound c = a .chain in
     let next : Next c s i = f .0 in
     let slot : i < length (s .counts) = omega (arith, reached-slots k r .counts, next .node) in
-    let cap : (j : ℕ) → j < c .n → minimumOf (rowOf c j) ≤ capacityOf (rowOf c j) = λ j l. enough-capacity c j (enough j l) in
     let later : countAt (fired c s i) i ≤ limit = omega (arith, counted-from c (fired c s i) h i (omega (arith, counts-length c s i)), most i (next .node)) in (
-      fire-accepts c s i .1 (
-        a,
-        (
-          λ j l. ((r .balance j l, le-trans (tight j l) (cap j l)), omega (arith, reached-done k r j, k .work j l .0)),
-          record {
-            node = next .node;
-            countable = λ e. omega (arith, count-fired c s i slot, later);
-            over = next .over;
-            room = λ l. le-trans (below-minimum k r i l (next .nearest i (le-refl i) l)) (cap i l);
-          },
-        ),
-      ),
+      firing-is c s i .1 (next-firing a enough r tight next (λ e. omega (arith, count-fired c s i slot, later))),
       follows-permitted a enough (fired c s i) h (reached-fired k r i (next .node) (next .over)) (tight-fired k r next tight) most (f .1),
     )
 
