@@ -1,0 +1,1 @@
+// Deadlines and their laws. This crate has no code.

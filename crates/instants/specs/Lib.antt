@@ -1,0 +1,4 @@
+pub mod Steps
+pub mod Checks
+pub mod Runs
+pub mod Figures

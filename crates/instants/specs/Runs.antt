@@ -1,0 +1,85 @@
+-- A deadline run by instants and by ticks (01, Firing).
+--   onward-clean, -stands      what follows a clean state, and what follows any other outcome
+--   onward-then                one thing after the other
+--   instants-ticks             instants are the effect of a firing that is finished, and then ticks
+--   ticks-more                 a+b ticks are a ticks, carried on for b
+use mathlib.Core.Path.{_≡_, refl, sym, ap, _∙_}
+use Prim.Native.Nat.{ℕ, zero, suc, _+_}
+use native.Mathlib.Nat.{zero-add, suc-add}
+use Rattle.chain.specs.declared.Chain.{Chain}
+use Rattle.state.specs.declared.Run.{Run}
+use Rattle.instants.specs.Steps.{clean, goes, onward, finished, advanced, tick, ticks, instants}
+use Rattle.instants.specs.declared.Outcome.{Outcome}
+use Rattle.instants.specs.declared.Outcome.the-variants.{Clean, Overflowed, NoDeadline}
+use Rattle.instants.specs.declared.Ticked.{Ticked}
+
+-- a clean state goes on
+pub onward-clean : (s : Run) (f : Run → Ticked) → onward (clean s) f ≡ f s
+unfolding onward
+onward-clean s f = refl
+
+-- one thing after the other
+pub onward-then : (r : Ticked) (f g : Run → Ticked) → onward (onward r f) g ≡ onward r (λ s. onward (f s) g)
+unfolding onward
+onward-then r f g = by (r .outcome) (r .run)
+  where
+    by : (o : Outcome) (s : Run) → goes (goes o s f .outcome) (goes o s f .run) g ≡ goes o s (λ u. goes (f u .outcome) (f u .run) g)
+    by Clean s = refl
+    by (Overflowed t q) s = refl
+    by (NoDeadline t i) s = refl
+
+-- nothing follows
+pub onward-none : (r : Ticked) → onward r clean ≡ r
+unfolding onward
+onward-none r = by (r .outcome) (r .run)
+  where
+    by : (o : Outcome) (s : Run) → goes o s clean ≡ record { outcome = o; run = s }
+    by Clean s = refl
+    by (Overflowed t q) s = refl
+    by (NoDeadline t i) s = refl
+
+module _ (c : Chain) where
+  ticks-none : (s : Run) → ticks c 0 s ≡ clean s
+  unfolding ticks
+  ticks-none s = refl
+
+  pub ticks-suc : (T : ℕ) (s : Run) → ticks c (suc T) s ≡ onward (tick c s) (ticks c T)
+  unfolding ticks
+  ticks-suc T s = refl
+
+  tick-parts : (s : Run) → tick c s ≡ onward (advanced c s) (finished c)
+  unfolding tick
+  tick-parts s = refl
+
+  instants-suc : (T : ℕ) (s : Run) → instants c (suc T) s ≡ onward (onward (finished c s) (advanced c)) (instants c T)
+  unfolding instants
+  instants-suc T s = refl
+
+  instants-none : (s : Run) → instants c 0 s ≡ finished c s
+  unfolding instants
+  instants-none s = refl
+
+  -- 01's instants are the effect of what is finished, and then tick after tick
+  pub instants-ticks : (T : ℕ) (s : Run) → instants c T s ≡ onward (finished c s) (ticks c T)
+  instants-ticks zero s = instants-none s ∙ sym (onward-none (finished c s)) ∙ ap (onward (finished c s)) (λ i u. sym (ticks-none u) i)
+  instants-ticks (suc T) s =
+      instants-suc T s
+      ∙ onward-then (finished c s) (advanced c) (instants c T)
+      ∙ ap (onward (finished c s)) (λ i u. step u i)
+    where
+      step : (u : Run) → onward (advanced c u) (instants c T) ≡ ticks c (suc T) u
+      step u =
+          ap (onward (advanced c u)) (λ i v. instants-ticks T v i)
+          ∙ sym (onward-then (advanced c u) (finished c) (ticks c T))
+          ∙ ap (λ (r : Ticked). onward r (ticks c T)) (sym (tick-parts u))
+          ∙ sym (ticks-suc T u)
+
+  -- "a run of a+b ticks is a run of a ticks carried on for b"
+  pub ticks-more : (a b : ℕ) (s : Run) → ticks c (a + b) s ≡ onward (ticks c a s) (ticks c b)
+  ticks-more zero b s = ap (λ (T : ℕ). ticks c T s) (zero-add b) ∙ sym (onward-clean s (ticks c b)) ∙ ap (λ (r : Ticked). onward r (ticks c b)) (sym (ticks-none s))
+  ticks-more (suc a) b s =
+      ap (λ (T : ℕ). ticks c T s) (suc-add a b)
+      ∙ ticks-suc (a + b) s
+      ∙ ap (onward (tick c s)) (λ i u. ticks-more a b u i)
+      ∙ sym (onward-then (tick c s) (ticks c a) (ticks c b))
+      ∙ ap (λ (r : Ticked). onward r (ticks c b)) (sym (ticks-suc a s))
