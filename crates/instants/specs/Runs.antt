@@ -65,11 +65,11 @@ module _ (c : Chain) where
   instants-ticks (suc T) s =
       instants-suc T s
       ∙ onward-then (finished c s) (advanced c) (instants c T)
-      ∙ ap (onward (finished c s)) (λ i u. step u i)
+      ∙ ap (onward (finished c s)) (λ i u. step (instants-ticks T) u i)
     where
-      step : (u : Run) → onward (advanced c u) (instants c T) ≡ ticks c (suc T) u
-      step u =
-          ap (onward (advanced c u)) (λ i v. instants-ticks T v i)
+      step : ((v : Run) → instants c T v ≡ onward (finished c v) (ticks c T)) → (u : Run) → onward (advanced c u) (instants c T) ≡ ticks c (suc T) u
+      step each u =
+          ap (onward (advanced c u)) (λ i v. each v i)
           ∙ sym (onward-then (advanced c u) (finished c) (ticks c T))
           ∙ ap (λ (r : Ticked). onward r (ticks c T)) (sym (tick-parts u))
           ∙ sym (ticks-suc T u)
