@@ -1,5 +1,6 @@
 -- One tick and a deadline run (01, Firing).
---   numberOf o, valuesOf o     this paper's number and values of an outcome
+--   numberOf o, valuesOf o     the number and the values that 01 gives an outcome
+--   kindOf o                   its code for C
 --   clean s, overflowed s t q, undated s t i
 --                              a state that is left clean, by a production at t that does not fit queue q, or by 13 at t of node i
 --   onward r f                 what f makes of a state that was left clean; any other outcome stands
@@ -51,6 +52,12 @@ unfoldable pub valuesOf : Outcome → List ℕ
 valuesOf Clean = []
 valuesOf (Overflowed t q) = t ∷ q ∷ []
 valuesOf (NoDeadline t i) = t ∷ i ∷ []
+
+-- the code of an outcome for C, and its two values there: 0 where it has none
+unfoldable pub kindOf : Outcome → ℕ
+kindOf Clean = 0
+kindOf (Overflowed t q) = 1
+kindOf (NoDeadline t i) = 2
 
 -- the three ways in which a state is left
 abbrev pub clean : Run → Ticked

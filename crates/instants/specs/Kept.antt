@@ -1,0 +1,350 @@
+-- What the steps of a tick keep of a state that passes 17 (01, Firing and Numbers a call may refuse with).
+--   Running c s                an accepted chain, and a state of it that passes 17
+--   fired-running              a firing that manual firing accepts leaves such a state
+--   chosen-low, chosen-over    the node that works is a node of the chain, and over threshold
+--   SourceStep c s u           what the source's step leaves where it is clean
+--   sourced-clean              it leaves that
+--   begun-clean                the source's step and 13 leave what the source's step does
+--   worked-…                   one tick of work
+use mathlib.Core.Path.{_≡_, refl, sym, ap, subst, _∙_}
+use mathlib.Core.Logic.{_≢_, by-cases}
+use mathlib.Core.Bool.{Bool, true, false, cond, _&&_, not}
+use mathlib.Core.List.{List}
+use Prim.Native.Nat.{ℕ, zero, suc, _+_, _*_, _≤_, _<_}
+use native.Mathlib.Nat.{le-refl, le-step}
+use native.Mathlib.Decide.{ℕ-discrete, decLe, decLt}
+use native.Mathlib.Omega.{arith}
+use lib.Dec.{eqb, leb}
+use lib.ListN.{length, getD, set, length-set}
+use lib.Seq.{getD-set-same, getD-set-other}
+use borrow.Author.Tests.{eq-eqb, ne-eqb, eqb-true, leb-true, le-leb, lt-leb}
+use Rattle.chain.specs.Refusals.{Silent, test}
+use Rattle.chain.specs.Record.{rowOf, workOf}
+use Rattle.chain.specs.Sound.{Sound}
+use Rattle.chain.specs.declared.Chain.{Chain}
+use Rattle.sizing.specs.Sizes.{capacityOf}
+use Rattle.sizing.specs.Checks.{limit}
+use Rattle.sizing.specs.Accepted.{Accepted}
+use Rattle.state.specs.State.{countAt, heldAt, doneAt, freshRun}
+use Rattle.state.specs.Fired.{fired, Over, Room, May, Balance, Slots, over-enough, count-fired, count-other, held-output, held-input, held-other, held-sink, counts-length, holds-length, balance-kept}
+use Rattle.state.specs.Checks.{over, over-true, cramped, StateSound, room-silent}
+use Rattle.state.specs.Fire.{Firing}
+use Rattle.state.specs.declared.Run.{Run}
+use Rattle.past.specs.Runs.{Whole}
+use Rattle.instants.specs.Steps.{kindOf, clean, overflowed, undated, onward, goes, divides, sourced, lacking, begun, choose, chosen, worked, endedIn, ended, finish, finished, advanced, tick, withClock, withDone, asEarly}
+use Rattle.instants.specs.declared.Outcome.{Outcome}
+use Rattle.instants.specs.declared.Outcome.the-variants.{Clean, Overflowed, NoDeadline}
+use Rattle.instants.specs.declared.Ticked.{Ticked}
+
+-- an accepted chain, and a state of it that passes 17
+pub record Running (c : Chain) (s : Run) : Type 0 where
+  pub chain : Accepted c
+  pub whole : Whole s
+  pub state : StateSound c s
+
+pub running-slots : {c : Chain} {s : Run} → Running c s → Slots (c .n) s
+running-slots r = record { counts = omega (arith, r .whole .counts, r .chain .chain .count .1); held = omega (arith, r .whole .held, r .chain .chain .count .1) }
+
+-- a firing of a node leaves no queue with a reason of 17
+module _ {c : Chain} {s : Run} (r : Running c s) {i : ℕ} (m : May c s i) where
+  sound : Sound c
+  sound = r .chain .chain
+
+  -- a firing finds what it takes
+  enough : (j : ℕ) → j < c .n → i ≡ suc j → rowOf c j .consume ≤ heldAt s j
+  enough j l e = over-enough sound s j l (subst (Over c s) e (m .over))
+
+  filled : (j : ℕ) → j < c .n → heldAt (fired c s i) j ≤ capacityOf (rowOf c j)
+  filled j l = by-cases (ℕ-discrete j i)
+      (λ e. rw (e, held-output c s i (omega arith) (omega (arith, r .whole .held, sound .count .1))) (m .room (omega arith)))
+      (λ ne. by-cases (ℕ-discrete (suc j) i)
+      (λ e. omega (arith, subst (λ (k : ℕ). heldAt (fired c s k) j + rowOf c j .consume ≡ heldAt s j) e (held-input c s j (omega (arith, r .whole .held, sound .count .1)) (enough j l (sym e))), r .state j l .0 .1))
+      (λ ne′. rw (held-other c s i j ne ne′) (r .state j l .0 .1)))
+
+  pub fired-running : Running c (fired c s i)
+  unfolding fired
+  fired-running = record {
+    chain = r .chain;
+    whole = record { counts = counts-length c s i ∙ r .whole .counts; held = holds-length c s i ∙ r .whole .held; done = r .whole .done };
+    state = λ j l. ((balance-kept c s i j (running-slots r) l (enough j l) (r .state j l .0 .0), filled j l), r .state j l .1);
+  }
+
+-- a queue that is not full for N_i has room for it
+pub room-of : (c : Chain) (s : Run) (i : ℕ) → cramped c s i ≡ false → Room c s i
+room-of c s i e = room-silent c s i .0 (ap (λ (b : Bool). test 12 i b .number) e)
+
+-- no outcome that ends a run is clean
+pub unclean-overflow : {t q : ℕ} → Overflowed t q ≡ Clean → ⊥
+unfolding kindOf
+unclean-overflow e = let z : _≡_ {A = ℕ} 1 0 = ap kindOf e in absurd (omega arith)
+
+pub unclean-undated : {t i : ℕ} → NoDeadline t i ≡ Clean → ⊥
+unfolding kindOf
+unclean-undated e = let z : _≡_ {A = ℕ} 2 0 = ap kindOf e in absurd (omega arith)
+
+-- what the source's step leaves where it is clean
+pub record SourceStep (c : Chain) (s u : Run) : Type 0 where
+  pub running : Running c u
+  pub clock : u .clock ≡ s .clock
+  pub done : u .done ≡ s .done
+  pub source : countAt u 0 ≤ suc (countAt s 0)
+  pub others : (i : ℕ) → 0 < i → countAt u i ≡ countAt s i
+
+module _ {c : Chain} {s : Run} (r : Running c s) where
+  -- the source may fire where its production fits
+  pub source-may : countAt s 0 ≢ limit → cramped c s 0 ≡ false → May c s 0
+  source-may n e = record { node = omega arith; countable = n; over = tt; room = room-of c s 0 e }
+
+  source-rests : SourceStep c s s
+  source-rests = record { running = r; clock = refl; done = refl; source = omega arith; others = λ i l. refl }
+
+  source-fires : May c s 0 → SourceStep c s (fired c s 0)
+  unfolding fired
+  source-fires m = record {
+    running = fired-running r m;
+    clock = refl;
+    done = refl;
+    source = omega (arith, count-fired c s 0 (omega (arith, r .whole .counts)));
+    others = λ i l. count-other c s 0 i (λ e. omega arith);
+  }
+
+  pub sourced-clean : countAt s 0 ≢ limit → sourced c s .outcome ≡ Clean → SourceStep c s (sourced c s .run)
+  unfolding sourced
+  sourced-clean n = by (divides (c .period) (s .clock)) (cramped c s 0) refl
+    where
+      by : (d x : Bool) → cramped c s 0 ≡ x
+          → (cond d (cond x (overflowed s (s .clock) 0) (clean (fired c s 0))) (clean s)) .outcome ≡ Clean
+          → SourceStep c s ((cond d (cond x (overflowed s (s .clock) 0) (clean (fired c s 0))) (clean s)) .run)
+      by true true e h = absurd (unclean-overflow h)
+      by true false e h = source-fires (source-may n e)
+      by false x e h = source-rests
+
+-- what goes on was clean
+pub onward-cases : (r : Ticked) (f : Run → Ticked) → onward r f .outcome ≡ Clean → (r .outcome ≡ Clean) × ((f (r .run) .outcome ≡ Clean) × (onward r f ≡ f (r .run)))
+unfolding onward
+onward-cases r f = by (r .outcome)
+  where
+    by : (o : Outcome) → goes o (r .run) f .outcome ≡ Clean → (o ≡ Clean) × ((f (r .run) .outcome ≡ Clean) × (goes o (r .run) f ≡ f (r .run)))
+    by Clean h = (refl, (h, refl))
+    by (Overflowed t q) h = absurd (unclean-overflow h)
+    by (NoDeadline t i) h = absurd (unclean-undated h)
+
+-- 13 does not change a clean state
+pub begun-clean : (c : Chain) (s : Run) → begun c s .outcome ≡ Clean → (sourced c s .outcome ≡ Clean) × (Silent (lacking c (sourced c s .run)) × (begun c s ≡ clean (sourced c s .run)))
+unfolding begun
+begun-clean c s h =
+    let o = onward-cases (sourced c s) after h in
+    let x = by (eqb (lacking c (sourced c s .run) .number) 0) refl (o .1 .0) in
+    (o .0, (x .0, o .1 .1 ∙ x .1))
+  where
+    after : Run → Ticked
+    after u = cond (eqb (lacking c u .number) 0) (clean u) (undated s (s .clock) (lacking c u .place))
+
+    by : (b : Bool) → eqb (lacking c (sourced c s .run) .number) 0 ≡ b
+        → (cond b (clean (sourced c s .run)) (undated s (s .clock) (lacking c (sourced c s .run) .place))) .outcome ≡ Clean
+        → Silent (lacking c (sourced c s .run)) × (cond b (clean (sourced c s .run)) (undated s (s .clock) (lacking c (sourced c s .run) .place)) ≡ clean (sourced c s .run))
+    by true e h = (eqb-true _ _ e, refl)
+    by false e h = absurd (unclean-undated h)
+
+-- the node that works is a node of the chain
+choose-low : (due : ℕ → ℕ) (able : ℕ → Bool) (n : ℕ) → choose due able n ≤ n
+unfolding choose
+choose-low due able zero = omega arith
+choose-low due able (suc n) = by (able (suc n) && asEarly due (suc n) (choose due able n)) (choose-low due able n)
+  where
+    by : (b : Bool) → choose due able n ≤ n → cond b (suc n) (choose due able n) ≤ suc n
+    by true l = le-refl (suc n)
+    by false l = le-step l
+
+-- and over threshold
+choose-able : (due : ℕ → ℕ) (able : ℕ → Bool) (n j : ℕ) → choose due able n ≡ suc j → able (suc j) ≡ true
+unfolding choose
+choose-able due able zero j e = absurd (omega arith)
+choose-able due able (suc n) j h = by (able (suc n)) (asEarly due (suc n) (choose due able n)) refl (choose-able due able n j) h
+  where
+    by : (a b : Bool) → able (suc n) ≡ a → (choose due able n ≡ suc j → able (suc j) ≡ true) → cond (a && b) (suc n) (choose due able n) ≡ suc j → able (suc j) ≡ true
+    by true true e before h = subst (λ (m : ℕ). able m ≡ true) h e
+    by true false e before h = before h
+    by false b e before h = before h
+
+module _ (c : Chain) (s : Run) where
+  pub chosen-low : chosen c s ≤ c .n
+  unfolding chosen
+  chosen-low = choose-low _ (over c s) (c .n)
+
+  pub chosen-over : (j : ℕ) → chosen c s ≡ suc j → Over c s (suc j)
+  unfolding chosen
+  chosen-over j e = over-true c s (suc j) .0 (choose-able _ (over c s) (c .n) j e)
+
+-- which node's work is done
+module _ (c : Chain) (s : Run) where
+  pub ended-none : (m : ℕ) → ((j : ℕ) → j < m → doneAt s j < workOf c j) → endedIn c s m ≡ 0
+  unfolding endedIn
+  ended-none zero h = refl
+  ended-none (suc j) h = simp (lt-leb (workOf c j) (doneAt s j) (h j (le-refl (suc j)))) (ended-none j (λ k l. h k (le-step l)))
+
+  pub ended-one : (m j : ℕ) → j < m → workOf c j ≤ doneAt s j → ((k : ℕ) → k < m → k ≢ j → doneAt s k < workOf c k) → endedIn c s m ≡ suc j
+  unfolding endedIn
+  ended-one zero j l h others = absurd (omega arith)
+  ended-one (suc k) j l h others = by-cases (ℕ-discrete k j)
+      (λ e. simp (le-leb (workOf c k) (doneAt s k) (rw e h)) (ap suc e))
+      (λ ne. simp (lt-leb (workOf c k) (doneAt s k) (others k (le-refl (suc k)) ne)) (ended-one k j (omega arith) h (λ i m. others i (le-step m))))
+
+-- one tick of work of N_i leaves counts and contents as they were, and moves the clock
+module _ (s : Run) where
+  pub worked-counts : (i : ℕ) → worked s i .counts ≡ s .counts
+  unfolding worked
+  worked-counts zero = refl
+  worked-counts (suc j) = refl
+
+  pub worked-held : (i : ℕ) → worked s i .held ≡ s .held
+  unfolding worked
+  worked-held zero = refl
+  worked-held (suc j) = refl
+
+  pub worked-clock : (i : ℕ) → worked s i .clock ≡ s .clock + 1
+  unfolding worked
+  worked-clock zero = refl
+  worked-clock (suc j) = refl
+
+  pub worked-other : (i j : ℕ) → i ≢ suc j → doneAt (worked s i) j ≡ doneAt s j
+  unfolding worked
+  worked-other zero j ne = refl
+  worked-other (suc k) j ne = getD-set-other (s .done) k j (doneAt s k + 1) 0 (λ e. ne (ap suc (sym e)))
+
+  pub worked-same : (j : ℕ) → j < length (s .done) → doneAt (worked s (suc j)) j ≡ doneAt s j + 1
+  unfolding worked
+  worked-same j l = getD-set-same (s .done) j (doneAt s j + 1) 0 l
+
+  worked-deep : (i : ℕ) → length (worked s i .done) ≡ length (s .done)
+  unfolding worked
+  worked-deep zero = refl
+  worked-deep (suc j) = length-set (s .done) j (doneAt s j + 1)
+
+-- a state with the counts and contents of one that passes 17, and work below e, passes it
+running-as : {c : Chain} {u w : Run} → Running c u → w .counts ≡ u .counts → w .held ≡ u .held → length (w .done) ≡ length (u .done) → ((j : ℕ) → j < c .n → doneAt w j < workOf c j) → Running c w
+running-as {c} {u} {w} r counts held deep below = record {
+  chain = r .chain;
+  whole = record { counts = ap length counts ∙ r .whole .counts; held = ap length held ∙ r .whole .held; done = deep ∙ r .whole .done };
+  state = λ j l. (rw (at counts j, at counts (suc j), at held j) (r .state j l .0), below j l);
+}
+  where
+    at : {a b : List ℕ} → a ≡ b → (j : ℕ) → getD a j 0 ≡ getD b j 0
+    at e j = ap (λ (x : List ℕ). getD x j 0) e
+
+module _ {c : Chain} {u : Run} (r : Running c u) where
+  below-else : (i j : ℕ) → j < c .n → i ≢ suc j → doneAt (worked u i) j < workOf c j
+  below-else i j l ne = rw (worked-other u i j ne) (r .state j l .1)
+
+  same-done : (j : ℕ) → j < c .n → doneAt (worked u (suc j)) j ≡ doneAt u j + 1
+  same-done j l = worked-same u j (omega (arith, r .whole .done, r .chain .chain .count .1))
+
+  -- a firing that is not finished: the work is kept, and nothing takes effect
+  module _ (i : ℕ) (less : (j : ℕ) → j < c .n → i ≡ suc j → doneAt u j + 1 < workOf c j) where
+    below : (j : ℕ) → j < c .n → doneAt (worked u i) j < workOf c j
+    below j l = by-cases (ℕ-discrete i (suc j)) (λ e. rw (e, same-done j l) (less j l e)) (λ ne. below-else i j l ne)
+
+    pub works-running : Running c (worked u i)
+    works-running = running-as r (worked-counts u i) (worked-held u i) (worked-deep u i) below
+
+    pub works-on : finished c (worked u i) ≡ clean (worked u i)
+    unfolding finished finish
+    works-on = ap (finish c (worked u i)) (ended-none c (worked u i) (c .n) below)
+
+  -- a firing that is finished takes effect, if it fits; its work is cleared before
+  module _ (j : ℕ) (l : j < c .n) (all : doneAt u j + 1 ≡ workOf c j) where
+    pub works-ends : finished c (worked u (suc j)) ≡ finish c (worked u (suc j)) (suc j)
+    unfolding finished
+    works-ends = ap (finish c (worked u (suc j))) (ended-one c (worked u (suc j)) (c .n) j l (omega (arith, all, same-done j l)) (λ k m ne. below-else (suc j) k m (λ e. ne (omega arith))))
+
+    pub cleared-running : Running c (withDone (worked u (suc j)) j 0)
+    cleared-running = running-as r (worked-counts u (suc j)) (worked-held u (suc j)) (length-set (worked u (suc j) .done) j 0 ∙ worked-deep u (suc j)) low
+      where
+        low : (k : ℕ) → k < c .n → doneAt (withDone (worked u (suc j)) j 0) k < workOf c k
+        low k m = by-cases (ℕ-discrete k j)
+            (λ e. rw (e, getD-set-same (worked u (suc j) .done) j 0 0 (omega (arith, worked-deep u (suc j), r .whole .done, r .chain .chain .count .1))) (r .chain .chain .work j l .0))
+            (λ ne. rw (getD-set-other (worked u (suc j) .done) j k 0 0 ne) (below-else (suc j) k m (λ e. ne (omega arith))))
+
+    -- its node may fire, since what it takes was there when it was chosen
+    pub finish-may : Over c u (suc j) → countAt u (suc j) ≢ limit → cramped c (worked u (suc j)) (suc j) ≡ false → May c (withDone (worked u (suc j)) j 0) (suc j)
+    unfolding cramped worked
+    finish-may o n e = record { node = l; countable = n; over = o; room = room-of c (withDone (worked u (suc j)) j 0) (suc j) e }
+
+-- what a tick leaves where it is clean: a state that passes 17 one tick later, no node having fired more than once
+pub record TickStep (c : Chain) (s t : Run) : Type 0 where
+  pub running : Running c t
+  pub clock : t .clock ≡ s .clock + 1
+  pub counts : (i : ℕ) → i ≤ c .n → countAt t i ≤ suc (countAt s i)
+
+-- a firing changes neither clock nor work done
+fired-clock : (c : Chain) (s : Run) (i : ℕ) → fired c s i .clock ≡ s .clock
+unfolding fired
+fired-clock c s i = refl
+
+-- every count of a node can grow
+abbrev pub Countable : Chain → Run → Type 0
+Countable c s = (i : ℕ) → i ≤ c .n → countAt s i ≢ limit
+
+-- the effect of a firing then finished
+module _ {c : Chain} {s u : Run} (k : SourceStep c s u) (some : Countable c s) where
+  -- counts that were not changed since the source's step
+  unchanged : (w : Run) → w .counts ≡ u .counts → (i : ℕ) → countAt w i ≤ suc (countAt s i)
+  unchanged w e zero = omega (arith, ap (λ (l : List ℕ). getD l 0 0) e, k .source)
+  unchanged w e (suc i) = omega (arith, ap (λ (l : List ℕ). getD l (suc i) 0) e, k .others (suc i) (omega arith))
+
+  -- nothing took effect
+  rests : (i : ℕ) → Running c (worked u i) → TickStep c s (worked u i)
+  rests i r = record { running = r; clock = worked-clock u i ∙ ap (λ (t : ℕ). t + 1) (k .clock); counts = λ j l. unchanged (worked u i) (worked-counts u i) j }
+
+  module _ (j : ℕ) (l : j < c .n) (all : doneAt u j + 1 ≡ workOf c j) (o : Over c u (suc j)) where
+    ends-step : (x : Bool) → cramped c (worked u (suc j)) (suc j) ≡ x
+        → (cond x (overflowed (worked u (suc j)) (worked u (suc j) .clock) (suc j)) (clean (fired c (withDone (worked u (suc j)) j 0) (suc j)))) .outcome ≡ Clean
+        → TickStep c s ((cond x (overflowed (worked u (suc j)) (worked u (suc j) .clock) (suc j)) (clean (fired c (withDone (worked u (suc j)) j 0) (suc j)))) .run)
+    ends-step true e h = absurd (unclean-overflow h)
+    ends-step false e h =
+        let v : Run = withDone (worked u (suc j)) j 0 in
+        let other : countAt u (suc j) ≡ countAt s (suc j) = k .others (suc j) (omega arith) in
+        let r : Running c v = cleared-running (k .running) j l all in
+        let m : May c v (suc j) = finish-may (k .running) j l all o (rw other (some (suc j) l)) e in
+        let once : countAt (fired c v (suc j)) (suc j) ≡ countAt v (suc j) + 1 = count-fired c v (suc j) (omega (arith, r .whole .counts, r .chain .chain .count .1)) in
+        let same : countAt v (suc j) ≡ countAt u (suc j) = ap (λ (x : List ℕ). getD x (suc j) 0) (worked-counts u (suc j)) in
+        record {
+          running = fired-running r m;
+          clock = fired-clock c v (suc j) ∙ worked-clock u (suc j) ∙ ap (λ (t : ℕ). t + 1) (k .clock);
+          counts = λ i f. by-cases (ℕ-discrete i (suc j))
+              (λ e. rw e (omega (arith, once, same, other)))
+              (λ n. rw (count-other c v (suc j) i n) (unchanged v (worked-counts u (suc j)) i));
+        }
+
+    ends : finish c (worked u (suc j)) (suc j) .outcome ≡ Clean → TickStep c s (finish c (worked u (suc j)) (suc j) .run)
+    unfolding finish
+    ends = ends-step (cramped c (worked u (suc j)) (suc j)) refl
+
+  -- the whole step of work, of the node that was chosen
+  works-step : (i : ℕ) → i ≤ c .n → ((j : ℕ) → i ≡ suc j → Over c u (suc j)) → finished c (worked u i) .outcome ≡ Clean → TickStep c s (finished c (worked u i) .run)
+  works-step zero low o h =
+      let on : finished c (worked u 0) ≡ clean (worked u 0) = works-on (k .running) 0 (λ j l e. absurd (omega arith)) in
+      subst (λ (x : Ticked). TickStep c s (x .run)) (sym on) (rests 0 (works-running (k .running) 0 (λ j l e. absurd (omega arith))))
+  works-step (suc j) low o h = by-cases (ℕ-discrete (doneAt u j + 1) (workOf c j))
+      (λ all.
+      let e : finished c (worked u (suc j)) ≡ finish c (worked u (suc j)) (suc j) = works-ends (k .running) j low all in
+      subst (λ (x : Ticked). TickStep c s (x .run)) (sym e) (ends j low all (o j refl) (ap (λ (x : Ticked). x .outcome) (sym e) ∙ h)))
+      (λ ne.
+      let less : (m : ℕ) → m < c .n → suc j ≡ suc m → doneAt u m + 1 < workOf c m = λ m f e. let z : j ≡ m = omega arith in subst (λ (x : ℕ). doneAt u x + 1 < workOf c x) z (omega (arith, ne, k .running .state j low .1)) in
+      let on : finished c (worked u (suc j)) ≡ clean (worked u (suc j)) = works-on (k .running) (suc j) less in
+      subst (λ (x : Ticked). TickStep c s (x .run)) (sym on) (rests (suc j) (works-running (k .running) (suc j) less)))
+
+module _ {c : Chain} {s : Run} (r : Running c s) (some : Countable c s) where
+  -- a clean tick leaves a state that passes 17
+  pub tick-step : tick c s .outcome ≡ Clean → TickStep c s (tick c s .run)
+  unfolding tick advanced
+  tick-step h =
+      let o = onward-cases (advanced c s) (finished c) h in
+      let a = onward-cases (begun c s) (λ u. clean (worked u (chosen c u))) (o .0) in
+      let b = begun-clean c s (a .0) in
+      let u : Run = sourced c s .run in
+      let w : advanced c s .run ≡ worked u (chosen c u) = ap (λ (x : Ticked). x .run) (a .1 .1) ∙ ap (λ (x : Ticked). worked (x .run) (chosen c (x .run))) (b .1 .1) in
+      let f : tick c s ≡ finished c (worked u (chosen c u)) = o .1 .1 ∙ ap (finished c) w in
+      let step : SourceStep c s u = sourced-clean r (some 0 (omega arith)) (b .0) in
+      subst (λ (x : Ticked). TickStep c s (x .run)) (sym f)
+      (works-step step some (chosen c u) (chosen-low c u) (chosen-over c u) (ap (λ (x : Ticked). x .outcome) (sym f) ∙ h))
