@@ -1,2 +1,3 @@
 pub mod Flow
 pub mod Shown
+pub mod Poured

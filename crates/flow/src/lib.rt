@@ -1,10 +1,12 @@
 // The flow: a chain's rows and a run's counts and contents in one array of words, which code that fires nodes one by one
 // lends from call to call. Records of this size, handed by value, would be copied at each firing.
 ghost use mathlib.Core.Path.{_≡_};
+ghost use lib.ListN.{length};
 ghost use Rattle.chain.specs.Sound.{Sound};
 ghost use Rattle.state.specs.State.{freshRun};
 ghost use Rattle.flow.specs.Flow.{putIn, takenOut, firing, Ready, Puts, Takes, Shows};
 ghost use Rattle.flow.specs.Shown.{shown};
+ghost use Rattle.flow.specs.Poured.{Full};
 use chain::Chain;
 use state::Run;
 
@@ -12,13 +14,13 @@ use state::Run;
 // queue holds, and the number of queues. The word before the last is not used, so that HELD + i is SIZE for no node i.
 pub const LENGTH: usize = 83;
 
-const PRODUCE: usize = 0;
+pub const PRODUCE: usize = 0;
 
 pub const THRESHOLD: usize = 16;
 
-const CONSUME: usize = 32;
+pub const CONSUME: usize = 32;
 
-const COUNTS: usize = 48;
+pub const COUNTS: usize = 48;
 
 pub const HELD: usize = 65;
 
@@ -73,6 +75,30 @@ pub fn started(chain: Chain) -> [u32; LENGTH]
         i += 1;
     }
     flow
+}
+
+// The flow of a chain at a state.
+pub fn showing(chain: Chain, run: Run) -> [u32; LENGTH]
+    requires { ⌜ Sound chain ⌝ }
+    ensures { λ r. ⌜ Shows r chain run ⌝ }
+{
+    let mut flow = started(chain);
+    pour(&mut flow, run);
+    flow
+}
+
+// The counts and contents of a state, poured into a flow.
+fn pour(flow: &mut [u32; LENGTH], run: Run)
+    requires { ⌜ length (now flow) ≡ 83 ⌝ }
+    ensures { λ _. ⌜ Full (now (flow .entry)) run (now (flow .exit)) ⌝ }
+{
+    let mut i = 0;
+    while i < 16 {
+        flow[COUNTS + i] = run.counts[i];
+        flow[HELD + i] = run.held[i];
+        i += 1;
+    }
+    flow[COUNTS + 16] = run.counts[16];
 }
 
 // The state that a flow shows, clock and work done being 0.
