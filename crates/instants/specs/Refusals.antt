@@ -245,10 +245,11 @@ module _ (c : Chain) (T : ℕ) where
       Iff·trans (silent-as deadline-run-parts, silent-as (sym deadline-run-parts))
       (Iff·trans (or-silents (runRefusal c) (lengthCheck T)) (Iff·and (run-accepts c) (length-silent T)))
 
--- the answer of a call that is not refused, and of one that is
+-- the answer of a call that is not refused
 abbrev pub ranAs : Ticked → TickAnswer
 ranAs t = record { number = 0; place = 0; outcome = t .outcome; run = t .run }
 
+-- and of one that is
 abbrev pub refusedAs : Refusal → Run → TickAnswer
 refusedAs r s = record { number = r .number; place = r .place; outcome = Clean; run = s }
 

@@ -1,0 +1,2 @@
+mod Follow
+mod Answers

@@ -1,0 +1,47 @@
+-- `deadline::deadline` meets its contract: the chain may not run, or there is no such node or firing, or the index is followed down.
+use borrow.Author.Needs.{needs}
+use mathlib.Core.Path.{_∙_}
+use Rattle.deadline.proofs.Answers.{chain-refuses, sound-chain, analysed, ask-refuses, fresh-dues, due-answers}
+use Rattle.deadline.proofs.deadline.Statement.{statement}
+use Rattle.deadline.proofs.deadline.Tie as tie
+
+checked-for-run-requires : tie.Need-checked-for-run-requires
+checked-for-run-requires c κs = search needs
+
+refused-requires : tie.Need-refused-requires
+refused-requires c κs = search needs
+
+returns : tie.Need-returns
+returns c = c .refused .ensures ∙ chain-refuses _ _ _ (c .before .before .before .checked-for-run .ensures) (c .before .if1 .taken)
+
+refused-requires-2 : tie.Need-refused-requires-2
+refused-requires-2 c κs = search needs
+
+returns-2 : tie.Need-returns-2
+returns-2 c = c .refused2 .ensures ∙ ask-refuses _ _ _ (c .before .before .before .before .before .checked-for-run .ensures) (c .before .before .before .if1 .left) (c .before .if2 .taken)
+
+started-requires : tie.Need-started-requires
+started-requires c κs = let a = c .before .before .before .before .before .args in sound-chain _ (a .node) (a .index) (c .before .before .before .before .checked-for-run .ensures) (c .before .before .if1 .left)
+
+planned-requires : tie.Need-planned-requires
+planned-requires c κs = let a = c .before .before .before .before .before .before .args in analysed _ (a .node) (a .index) (c .before .before .before .before .before .checked-for-run .ensures) (c .before .before .before .if1 .left)
+
+due-requires : tie.Need-due-requires
+due-requires c κs = fresh-dues _ _ _ (c .before .before .before .before .before .before .before .before .checked-for-run .ensures) (c .before .before .before .before .before .before .if1 .left) (c .before .before .before .before .if2 .left) (c .before .before .planned .ensures) (c .before .before .before .started .ensures)
+
+returns-3 : tie.Need-returns-3
+returns-3 c = due-answers _ _ _ (c .before .before .before .before .before .before .before .before .before .checked-for-run .ensures) (c .before .before .before .before .before .before .before .if1 .left) (c .before .before .before .before .before .if2 .left) (c .before .before .before .planned .ensures) (c .before .before .before .before .started .ensures) (c .due .ensures)
+
+pub deadline-spec : {M : Type 1} → statement M
+deadline-spec =
+    tie.close
+    (tie.spec
+    checked-for-run-requires
+    refused-requires
+    returns
+    refused-requires-2
+    returns-2
+    started-requires
+    planned-requires
+    due-requires
+    returns-3)

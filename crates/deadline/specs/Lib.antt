@@ -1,0 +1,4 @@
+pub mod Plan
+pub mod Question
+pub mod Dues
+pub mod Figures

@@ -1,0 +1,139 @@
+// Deadline questions: when a firing of a node is due. The index is followed down to the source, a queue at a time, by a
+// function that calls itself for the node before.
+ghost use mathlib.Core.Path.{_≡_};
+ghost use Prim.Native.Nat.{_+_, _-_, _*_, _/_, _≤_};
+ghost use Rattle.state.specs.Checks.{Analysed};
+ghost use Rattle.deadline.specs.Plan.{Plans};
+ghost use Rattle.deadline.specs.Question.{refusedWith, deadlineAnswer};
+ghost use Rattle.deadline.specs.Dues.{Step, Dues, DueGives, Dated, DatedGives};
+use chain::Chain;
+use flow::LENGTH;
+use sizing::Analysis;
+
+// A plan is what deadlines and work are made from, in one array of words that code lends from call to call beside a flow.
+// How many words it has, and where they lie: each queue's capacity in force, the execution time of the node that the queue
+// feeds, and the source's period.
+pub const PLAN: usize = 33;
+
+pub const CAPACITY: usize = 0;
+
+pub const WORK: usize = 16;
+
+pub const PERIOD: usize = 32;
+
+// Where a flow has each queue's produce and consume, and each node's count.
+const PRODUCE: usize = 0;
+
+const CONSUME: usize = 32;
+
+const COUNTS: usize = 48;
+
+// What stands for a deadline that cannot be had; every other is below it.
+pub const NEVER: u64 = 18446744073709551615;
+
+// The largest index of a firing.
+const LIMIT: u64 = 4294967295;
+
+// The deadline of a firing in ticks, with the refusal that the call ended with, if any.
+#[repr(C)]
+pub struct DeadlineAnswer {
+    pub number: u32,
+    pub place: u32,
+    pub due: u64,
+}
+
+// The deadline of a node's firing of this index, or the first of 2, 4, 5, 6, 7, 8, 11 and 13 that refuses the question.
+pub fn deadline(chain: Chain, node: u32, index: u32) -> DeadlineAnswer
+    ensures { λ r. ⌜ r ≡ deadlineAnswer chain node index ⌝ }
+{
+    let sized = sizing::checked_for_run(chain);
+    if sized.number != 0 {
+        return refused(sized.number, sized.place);
+    }
+    if (chain.n < node) | (index == 0) {
+        return refused(11, node);
+    }
+    let flow = flow::started(chain);
+    let plan = planned(chain, sized.analysis);
+    due(&plan, &flow, node as usize, index)
+}
+
+// The plan of a chain, whose capacities in force its analysis has.
+pub fn planned(chain: Chain, analysis: Analysis) -> [u32; PLAN]
+    requires { ⌜ Analysed chain analysis ⌝ }
+    ensures { λ r. ⌜ Plans r chain ⌝ }
+{
+    let n = chain.n as usize;
+    let mut plan = [0; PLAN];
+    plan[PERIOD] = chain.period;
+    let mut i = 0;
+    while i < n {
+        plan[CAPACITY + i] = analysis.queues[i].capacity;
+        plan[WORK + i] = chain.work[i];
+        i += 1;
+    }
+    plan
+}
+
+// The deadline of node i's next firing, or NEVER.
+pub fn dated(plan: &[u32; PLAN], flow: &[u32; LENGTH], i: usize) -> u64
+    requires { ⌜ Dated (now plan) (now flow) i ⌝ }
+    ensures { λ r. ⌜ DatedGives (now (plan .entry)) (now (flow .entry)) i r ⌝ }
+{
+    let k = flow[COUNTS + i] + 1;
+    let answer = due(plan, flow, i, k);
+    if answer.number == 0 {
+        answer.due
+    } else {
+        NEVER
+    }
+}
+
+// The deadline of node i's k-th firing, or 13 where an index on the way down to the source passes the limit.
+pub fn due(plan: &[u32; PLAN], flow: &[u32; LENGTH], i: usize, k: u32) -> DeadlineAnswer
+    requires { ⌜ Dues (now plan) (now flow) i k ⌝ }
+    ensures { λ r. ⌜ DueGives (now (plan .entry)) (now (flow .entry)) i k r ⌝ }
+{
+    if i == 0 {
+        let ticks = at_source(plan[PERIOD], k);
+        return DeadlineAnswer {
+            number: 0,
+            place: 0,
+            due: ticks,
+        };
+    }
+    let j = i - 1;
+    let earlier = index_before(flow[PRODUCE + j], flow[CONSUME + j], plan[CAPACITY + j], k);
+    if LIMIT < earlier {
+        return refused(13, j as u32);
+    }
+    due(plan, flow, j, earlier as u32)
+}
+
+// The index at the node before a queue of these numbers, for index k at the node that it feeds.
+fn index_before(p: u32, c: u32, capacity: u32, k: u32) -> u64
+    requires { ⌜ Step p c capacity k ⌝ }
+    ensures { λ r. ⌜ r ≡ ((k - 1) * c + capacity) / p + 1 ⌝ }
+{
+    let taken = ((k - 1) as u64) * (c as u64);
+    (taken + (capacity as u64)) / (p as u64) + 1
+}
+
+// When the source's k-th firing is due.
+fn at_source(y: u32, k: u32) -> u64
+    requires { ⌜ 1 ≤ k ⌝ }
+    ensures { λ r. ⌜ r ≡ (k - 1) * y ⌝ }
+{
+    ((k - 1) as u64) * (y as u64)
+}
+
+// The answer of a refused question.
+fn refused(number: u32, place: u32) -> DeadlineAnswer
+    ensures { λ r. ⌜ r ≡ refusedWith number place ⌝ }
+{
+    DeadlineAnswer {
+        number: number,
+        place: place,
+        due: 0,
+    }
+}

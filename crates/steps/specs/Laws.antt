@@ -1,0 +1,262 @@
+-- The steps of a tick over what a run lends, one law to each need of their code.
+--   full-is                  whether a production fits is what 12 asks of the state that is shown
+--   rooms-…                  the numbers of that test fit
+--   source-…                 the source's step
+--   work-…                   one tick of work, and whether it is all that is to be done
+--   finish-…                 the effect of a firing that is finished
+use mathlib.Core.Path.{_≡_, refl, sym, ap, ap₂, subst, _∙_}
+use mathlib.Core.Logic.{_≢_, by-cases}
+use mathlib.Core.Bool.{Bool, true, false, cond, _&&_}
+use mathlib.Core.List.{List}
+use Prim.Native.Nat.{ℕ, zero, suc, _+_, _-_, _%_, _≤_, _<_, _^_}
+use native.Mathlib.Decide.{decLt}
+use native.Mathlib.Omega.{arith}
+use lib.Dec.{eqb, ltb, leb}
+use lib.ListN.{length, getD, set}
+use borrow.Author.Tests.{eq-eqb, ne-eqb, lt-ltb, le-ltb}
+use Rattle.chain.specs.Record.{rowOf}
+use Rattle.chain.specs.Sound.{Sound}
+use Rattle.chain.specs.declared.Chain.{Chain}
+use Rattle.sizing.specs.Sizes.{capacityOf, capacity-most}
+use Rattle.sizing.specs.Checks.{limit}
+use Rattle.state.specs.State.{countAt, heldAt, doneAt}
+use Rattle.state.specs.Fired.{fired, May}
+use Rattle.state.specs.Checks.{cramped}
+use Rattle.state.specs.Fire.{Firing}
+use Rattle.state.specs.declared.Run.{Run}
+use Rattle.flow.specs.Flow.{produceIn, heldIn, sizeIn, Shows, Ready, firing, shows-fired}
+use Rattle.deadline.specs.Plan.{capacityIn, workIn, periodIn}
+use Rattle.deadline.specs.Dues.{Shown}
+use Rattle.instants.specs.Steps.{clean, overflowed, sourced, worked, withDone, finish, finished}
+use Rattle.instants.specs.Kept.{Running, source-may, worked-counts, worked-held, worked-clock, works-ends, cleared-running, finish-may}
+use Rattle.instants.specs.declared.Outcome.the-variants.{Clean, Overflowed}
+use Rattle.instants.specs.declared.Ticked.{Ticked}
+use Rattle.steps.specs.Lent.{Stands, fullIn, Rooms, Sources, SourcedTo, SourcedGives, workedIn, endedAt, EndsIn, Ends, FinishedTo, FinishedGives}
+
+-- whether the production of N_i does not fit, by the plan and the flow and by the chain and the state that they show
+pub full-is : {l f : List ℕ} {c : Chain} {s : Run} → Shown l f c s → (i : ℕ) → fullIn l f i ≡ cramped c s i
+unfolding cramped
+full-is {l} {f} {c} {s} x i = by-cases (decLt i (c .n))
+    (λ h. let size : i < sizeIn f = omega (arith, x .shows .many) in
+    simp (lt-ltb i (sizeIn f) size, lt-ltb i (c .n) h) (λ t. ltb (x .plans .capacities i h t) (x .shows .holds i (omega (arith, x .shows .few)) t + x .shows .puts i h t)))
+    (λ n. let size : sizeIn f ≤ i = omega (arith, x .shows .many) in let past : c .n ≤ i = omega arith in simp (le-ltb i (sizeIn f) size, le-ltb i (c .n) past))
+
+-- the numbers of that test fit
+module _ {l f : List ℕ} {i : ℕ} (r : Rooms l f i) where
+  pub rooms-size : sizeIn f ≤ 16
+  rooms-size = omega (arith, r .shown .shows .many, r .shown .shows .few)
+
+  pub rooms-node : i ≤ 16
+  rooms-node = omega (arith, r .node, r .shown .shows .few)
+
+  pub rooms-sum : i < sizeIn f → heldIn f i + produceIn f i < 2 ^ 32
+  rooms-sum h =
+      let m : i < r .chain .n = omega (arith, r .shown .shows .many) in
+      let q = r .running .chain .chain .rows i m in
+      omega (arith, r .shown .shows .holds i (omega (arith, rooms-size)), r .shown .shows .puts i m, r .running .state i m .0 .1, capacity-most q, q .produce .1)
+
+-- past the last queue nothing is full
+pub full-sink : (l f : List ℕ) (i : ℕ) → sizeIn f ≤ i → false ≡ fullIn l f i
+full-sink l f i h = simp (le-ltb i (sizeIn f) h)
+
+pub full-queue : (l f : List ℕ) (i : ℕ) → i < sizeIn f → ltb (capacityIn l i) (heldIn f i + produceIn f i) ≡ fullIn l f i
+full-queue l f i h = simp (lt-ltb i (sizeIn f) h)
+
+-- the source's step of a state, in each of its three cases
+module _ (c : Chain) (s : Run) where
+  rests : s .clock % c .period ≢ 0 → sourced c s ≡ clean s
+  unfolding sourced
+  rests n = simp (ne-eqb _ _ n)
+
+  spills : s .clock % c .period ≡ 0 → cramped c s 0 ≡ true → sourced c s ≡ overflowed s (s .clock) 0
+  unfolding sourced
+  spills z e = simp (eq-eqb _ _ z, e)
+
+  fires : s .clock % c .period ≡ 0 → cramped c s 0 ≡ false → sourced c s ≡ clean (fired c s 0)
+  unfolding sourced
+  fires z e = simp (eq-eqb _ _ z, e)
+
+-- a flow shows what the source's step leaves
+sourced-to : {c : Chain} {s : Run} {t : ℕ} {g : List ℕ} {r : Bool} {x : Ticked} → sourced c s ≡ x → x .outcome ≡ cond r Clean (Overflowed t 0) → Shows g c (x .run) → SourcedTo c s t g r
+sourced-to {c} {s} {t} {g} {r} e o h = record { outcome = ap (λ (y : Ticked). y .outcome) e ∙ o; shows = subst (λ (y : Ticked). Shows g c (y .run)) (sym e) h }
+
+-- the source may fire where its production fits
+source-firing : {l f : List ℕ} {c : Chain} {s : Run} → Stands l f c s → fullIn l f 0 ≡ false → Firing c s 0
+source-firing {c = c} {s = s} x e = record {
+  chain = x .running .chain;
+  state = x .running .state;
+  may = source-may (x .running) (λ z. omega (arith, x .counts 0 (omega arith))) (sym (full-is (x .shown) 0) ∙ e);
+}
+
+module _ {l f : List ℕ} {t : ℕ} where
+  pub source-rooms : Sources l f t → Rooms l f 0
+  source-rooms a = record { chain = a .chain; run = a .run; shown = a .stands .shown; running = a .stands .running; node = omega arith }
+
+  pub source-period : Sources l f t → 0 < periodIn l
+  source-period a = omega (arith, a .stands .shown .plans .period, a .stands .running .chain .chain .period .0)
+
+  pub source-ready : Sources l f t → fullIn l f 0 ≡ false → Ready f 0
+  source-ready a e = record {
+    chain = a .chain;
+    run = a .run;
+    shows = a .stands .shown .shows;
+    firing = source-firing (a .stands) e;
+    word = omega (arith, a .stands .counts 0 (omega arith));
+  }
+
+  -- whether y divides the clock, by the plan and by the chain
+  rest-is : {c : Chain} {s : Run} → Stands l f c s → s .clock ≡ t → s .clock % c .period ≡ t % periodIn l
+  rest-is x k = ap₂ (λ (a b : ℕ). a % b) k (sym (x .shown .plans .period))
+
+  pub source-rests : t % periodIn l ≢ 0 → SourcedGives l f t f true
+  source-rests n = record { gives = λ {c} {s} x k. sourced-to (rests c s (λ z. n (sym (rest-is x k) ∙ z))) refl (x .shown .shows) }
+
+  module _ (z : t % periodIn l ≡ 0) where
+    pub source-spills : fullIn l f 0 ≡ true → SourcedGives l f t f false
+    source-spills e = record {
+      gives = λ {c} {s} x k. sourced-to (spills c s (rest-is x k ∙ z) (sym (full-is (x .shown) 0) ∙ e)) (ap (λ (u : ℕ). Overflowed u 0) k) (x .shown .shows);
+    }
+
+    pub source-fires : fullIn l f 0 ≡ false → SourcedGives l f t (firing f 0) true
+    source-fires e = record {
+      gives = λ {c} {s} x k. sourced-to (fires c s (rest-is x k ∙ z) (sym (full-is (x .shown) 0) ∙ e)) refl (shows-fired (x .shown .shows) (source-firing x e));
+    }
+
+-- one tick of work of N_i, as the definition of a tick has it
+pub worked-done : (s : Run) (i : ℕ) → worked s i .done ≡ workedIn (s .done) i
+unfolding worked workedIn
+worked-done s zero = refl
+worked-done s (suc j) = refl
+
+-- the same as code has it, which counts from 0
+pub work-node : (e : List ℕ) (i : ℕ) → 0 < i → set e (i - 1) (getD e (i - 1) 0 + 1) ≡ workedIn e i
+unfolding workedIn
+work-node e zero h = absurd (omega arith)
+work-node e (suc j) h = let z : suc j - 1 ≡ j = omega arith in rw z
+
+pub work-none : (e : List ℕ) (i : ℕ) → i ≤ 0 → e ≡ workedIn e i
+unfolding workedIn
+work-none e zero h = refl
+work-none e (suc j) h = absurd (omega arith)
+
+pub ended-none : (l e : List ℕ) (i : ℕ) → i ≡ 0 → false ≡ endedAt l e i
+unfolding endedAt
+ended-none l e zero h = refl
+ended-none l e (suc j) h = absurd (omega arith)
+
+pub ended-node : (l e : List ℕ) (i : ℕ) → i ≢ 0 → leb (workIn l (i - 1)) (getD e (i - 1) 0) ≡ endedAt l e i
+unfolding endedAt
+ended-node l e zero h = absurd (h refl)
+ended-node l e (suc j) h = let z : suc j - 1 ≡ j = omega arith in rw z
+
+-- a flow shows every state with the counts and contents of one that it shows
+pub shows-as : {f : List ℕ} {c : Chain} {s t : Run} → Shows f c s → t .counts ≡ s .counts → t .held ≡ s .held → Shows f c t
+shows-as x a h = record {
+  long = x .long;
+  many = x .many;
+  few = x .few;
+  puts = x .puts;
+  waits = x .waits;
+  takes = x .takes;
+  wide = ap length a ∙ x .wide;
+  deep = ap length h ∙ x .deep;
+  counts = λ j l. x .counts j l ∙ sym (ap (λ (y : List ℕ). getD y j 0) a);
+  holds = λ j l. x .holds j l ∙ sym (ap (λ (y : List ℕ). getD y j 0) h);
+}
+
+-- whether a production fits is not changed by work
+cramped-as : (c : Chain) (s t : Run) (i : ℕ) → t .held ≡ s .held → cramped c t i ≡ cramped c s i
+unfolding cramped
+cramped-as c s t i h = λ z. ltb i (c .n) && ltb (capacityOf (rowOf c i)) (getD (h z) i 0 + rowOf c i .produce)
+
+-- what the effect of N_(j+1)'s firing leaves, in each of its two cases
+module _ (c : Chain) (w : Run) (j : ℕ) where
+  finish-over : cramped c w (suc j) ≡ true → finish c w (suc j) ≡ overflowed w (w .clock) (suc j)
+  unfolding finish
+  finish-over e = simp e
+
+  finish-clean : cramped c w (suc j) ≡ false → finish c w (suc j) ≡ clean (fired c (withDone w j 0) (suc j))
+  unfolding finish
+  finish-clean e = simp e
+
+-- a firing keeps the work done
+fired-done : (c : Chain) (s : Run) (i : ℕ) → fired c s i .done ≡ s .done
+unfolding fired
+fired-done c s i = refl
+
+module _ {l f e : List ℕ} {i : ℕ} {c : Chain} {u : Run} (x : EndsIn l f e i c u) where
+  -- the node's own number, and the state after its work
+  abbrev node : ℕ
+  node = suc (x .queue)
+
+  abbrev after : Run
+  after = worked u node
+
+  abbrev cleared : Run
+  cleared = withDone after (x .queue) 0
+
+  ends-is : finished c after ≡ finish c after node
+  ends-is = works-ends (x .stands .running) (x .queue) (x .inside) (x .all)
+
+  full-now : {b : Bool} → fullIn l f i ≡ b → cramped c after node ≡ b
+  full-now {b} h = cramped-as c u after node (worked-held u node) ∙ sym (full-is (x .stands .shown) node) ∙ subst (λ (k : ℕ). fullIn l f k ≡ b) (x .is) h
+
+  cleared-shown : Shows f c cleared
+  cleared-shown = shows-as (x .stands .shown .shows) (worked-counts u node) (worked-held u node)
+
+  ends-firing : fullIn l f i ≡ false → Firing c cleared node
+  ends-firing h =
+      let r : Running c cleared = cleared-running (x .stands .running) (x .queue) (x .inside) (x .all) in
+      record {
+        chain = r .chain;
+        state = r .state;
+        may = finish-may (x .stands .running) (x .queue) (x .inside) (x .all) (x .over) (λ z. omega (arith, x .stands .counts node (x .inside))) (full-now h);
+      }
+
+  ends-over : fullIn l f i ≡ true → FinishedTo c u node f e false
+  ends-over h = let q : finished c after ≡ overflowed after (after .clock) node = ends-is ∙ finish-over c after (x .queue) (full-now h) in record {
+    outcome = ap (λ (y : Ticked). y .outcome) q ∙ ap (λ (t : ℕ). Overflowed t node) (worked-clock u node);
+    shows = subst (λ (y : Ticked). Shows f c (y .run)) (sym q) (shows-as (x .stands .shown .shows) (worked-counts u node) (worked-held u node));
+    done = x .done ∙ ap (λ (y : Ticked). y .run .done) (sym q);
+  }
+
+  ends-fits : fullIn l f i ≡ false → FinishedTo c u node (firing f node) (set e (x .queue) 0) true
+  ends-fits h = let q : finished c after ≡ clean (fired c cleared node) = ends-is ∙ finish-clean c after (x .queue) (full-now h) in record {
+    outcome = ap (λ (y : Ticked). y .outcome) q;
+    shows = subst (λ (y : Ticked). Shows (firing f node) c (y .run)) (sym q) (shows-fired cleared-shown (ends-firing h));
+    done = ap (λ (y : List ℕ). set y (x .queue) 0) (x .done) ∙ sym (fired-done c cleared node) ∙ ap (λ (y : Ticked). y .run .done) (sym q);
+  }
+
+module _ {l f e : List ℕ} {i : ℕ} where
+  pub finish-rooms : Ends l f e i → Rooms l f i
+  finish-rooms a = record {
+    chain = a .chain;
+    run = a .run;
+    shown = a .ends .stands .shown;
+    running = a .ends .stands .running;
+    node = omega (arith, a .ends .is, a .ends .inside);
+  }
+
+  -- N_i has a queue before it
+  pub finish-node : Ends l f e i → (0 < i) × (i ≤ 16)
+  finish-node a = (omega (arith, a .ends .is), omega (arith, a .ends .is, a .ends .inside, a .ends .stands .shown .shows .few))
+
+  pub finish-ready : Ends l f e i → fullIn l f i ≡ false → Ready f i
+  finish-ready a h = rw (a .ends .is) (record {
+    chain = a .chain;
+    run = cleared (a .ends);
+    shows = cleared-shown (a .ends);
+    firing = ends-firing (a .ends) h;
+    word = omega (arith, a .ends .stands .counts (suc (a .ends .queue)) (a .ends .inside), ap (λ (y : List ℕ). getD y (suc (a .ends .queue)) 0) (worked-counts (a .run) (suc (a .ends .queue))));
+  })
+
+  pub finish-spills : fullIn l f i ≡ true → FinishedGives l f e i f e false
+  finish-spills h = record { gives = λ {c} {u} x. subst (λ (k : ℕ). FinishedTo c u k f e false) (sym (x .is)) (ends-over x h) }
+
+  pub finish-fits : fullIn l f i ≡ false → FinishedGives l f e i (firing f i) (set e (i - 1) 0) true
+  finish-fits h = record {
+    gives = λ {c} {u} x.
+        let z : suc (x .queue) - 1 ≡ x .queue = omega arith in
+        subst (λ (k : ℕ). FinishedTo c u k (firing f k) (set e (k - 1) 0) true) (sym (x .is))
+        (subst (λ (k : ℕ). FinishedTo c u (suc (x .queue)) (firing f (suc (x .queue))) (set e k 0) true) (sym z) (ends-fits x h));
+  }

@@ -1,0 +1,4 @@
+pub mod Lent
+pub mod Laws
+pub mod Scans
+pub mod Begun

@@ -1,0 +1,5 @@
+pub mod Slots
+pub mod Deadlines
+pub mod Alike
+pub mod Kept
+pub mod Answers
