@@ -7,7 +7,10 @@ ghost use Rattle.deadline.specs.Plan.{Plans};
 ghost use Rattle.deadline.specs.Question.{refusedWith, deadlineAnswer};
 ghost use Rattle.deadline.specs.Dues.{Step, Dues, DueGives, Dated, DatedGives};
 use chain::Chain;
+use flow::CONSUME;
+use flow::COUNTS;
 use flow::LENGTH;
+use flow::PRODUCE;
 use sizing::Analysis;
 
 // A plan is what deadlines and work are made from, in one array of words that code lends from call to call beside a flow.
@@ -20,13 +23,6 @@ pub const CAPACITY: usize = 0;
 pub const WORK: usize = 16;
 
 pub const PERIOD: usize = 32;
-
-// Where a flow has each queue's produce and consume, and each node's count.
-const PRODUCE: usize = 0;
-
-const CONSUME: usize = 32;
-
-const COUNTS: usize = 48;
 
 // What stands for a deadline that cannot be had; every other is below it.
 pub const NEVER: u64 = 18446744073709551615;

@@ -31,6 +31,7 @@ use Rattle.state.specs.Checks.{over, over-true, cramped, StateSound, room-silen
 use Rattle.state.specs.Fire.{Firing}
 use Rattle.state.specs.declared.Run.{Run}
 use Rattle.past.specs.Runs.{Whole}
+use Rattle.instants.specs.Runs.{onward-then}
 use Rattle.instants.specs.Steps.{kindOf, clean, overflowed, undated, onward, goes, divides, sourced, lacking, begun, choose, chosen, worked, endedIn, ended, finish, finished, advanced, tick, withClock, withDone, asEarly}
 use Rattle.instants.specs.declared.Outcome.{Outcome}
 use Rattle.instants.specs.declared.Outcome.the-variants.{Clean, Overflowed, NoDeadline}
@@ -270,6 +271,11 @@ module _ {c : Chain} {u : Run} (r : Running c u) where
     unfolding cramped worked
     finish-may o n e = record { node = l; countable = n; over = o; room = room-of c (withDone (worked u (suc j)) j 0) (suc j) e }
 
+-- the source's step and 13, and then the work of the node chosen and its effect
+pub tick-parts : (c : Chain) (s : Run) → tick c s ≡ onward (begun c s) (λ u. finished c (worked u (chosen c u)))
+unfolding tick advanced onward
+tick-parts c s = onward-then (begun c s) (λ u. clean (worked u (chosen c u))) (finished c)
+
 -- what a tick leaves where it is clean: a state that passes 17 one tick later, no node having fired more than once
 pub record TickStep (c : Chain) (s t : Run) : Type 0 where
   pub running : Running c t
@@ -277,7 +283,7 @@ pub record TickStep (c : Chain) (s t : Run) : Type 0 where
   pub counts : (i : ℕ) → i ≤ c .n → countAt t i ≤ suc (countAt s i)
 
 -- a firing changes neither clock nor work done
-fired-clock : (c : Chain) (s : Run) (i : ℕ) → fired c s i .clock ≡ s .clock
+pub fired-clock : (c : Chain) (s : Run) (i : ℕ) → fired c s i .clock ≡ s .clock
 unfolding fired
 fired-clock c s i = refl
 
@@ -337,14 +343,11 @@ module _ {c : Chain} {s u : Run} (k : SourceStep c s u) (some : Countable c s) w
 module _ {c : Chain} {s : Run} (r : Running c s) (some : Countable c s) where
   -- a clean tick leaves a state that passes 17
   pub tick-step : tick c s .outcome ≡ Clean → TickStep c s (tick c s .run)
-  unfolding tick advanced
   tick-step h =
-      let o = onward-cases (advanced c s) (finished c) h in
-      let a = onward-cases (begun c s) (λ u. clean (worked u (chosen c u))) (o .0) in
-      let b = begun-clean c s (a .0) in
+      let o = onward-cases (begun c s) (λ u. finished c (worked u (chosen c u))) (ap (λ (x : Ticked). x .outcome) (sym (tick-parts c s)) ∙ h) in
+      let b = begun-clean c s (o .0) in
       let u : Run = sourced c s .run in
-      let w : advanced c s .run ≡ worked u (chosen c u) = ap (λ (x : Ticked). x .run) (a .1 .1) ∙ ap (λ (x : Ticked). worked (x .run) (chosen c (x .run))) (b .1 .1) in
-      let f : tick c s ≡ finished c (worked u (chosen c u)) = o .1 .1 ∙ ap (finished c) w in
+      let f : tick c s ≡ finished c (worked u (chosen c u)) = tick-parts c s ∙ o .1 .1 ∙ ap (λ (x : Ticked). finished c (worked (x .run) (chosen c (x .run)))) (b .1 .1) in
       let step : SourceStep c s u = sourced-clean r (some 0 (omega arith)) (b .0) in
       subst (λ (x : Ticked). TickStep c s (x .run)) (sym f)
       (works-step step some (chosen c u) (chosen-low c u) (chosen-over c u) (ap (λ (x : Ticked). x .outcome) (sym f) ∙ h))

@@ -196,27 +196,27 @@ module _ {l f e : List ℕ} {i : ℕ} {c : Chain} {u : Run} (x : EndsIn l f e i 
   cleared = withDone after (x .queue) 0
 
   ends-is : finished c after ≡ finish c after node
-  ends-is = works-ends (x .stands .running) (x .queue) (x .inside) (x .all)
+  ends-is = works-ends (x .running) (x .queue) (x .inside) (x .all)
 
   full-now : {b : Bool} → fullIn l f i ≡ b → cramped c after node ≡ b
-  full-now {b} h = cramped-as c u after node (worked-held u node) ∙ sym (full-is (x .stands .shown) node) ∙ subst (λ (k : ℕ). fullIn l f k ≡ b) (x .is) h
+  full-now {b} h = cramped-as c u after node (worked-held u node) ∙ sym (full-is (x .shown) node) ∙ subst (λ (k : ℕ). fullIn l f k ≡ b) (x .is) h
 
   cleared-shown : Shows f c cleared
-  cleared-shown = shows-as (x .stands .shown .shows) (worked-counts u node) (worked-held u node)
+  cleared-shown = shows-as (x .shown .shows) (worked-counts u node) (worked-held u node)
 
   ends-firing : fullIn l f i ≡ false → Firing c cleared node
   ends-firing h =
-      let r : Running c cleared = cleared-running (x .stands .running) (x .queue) (x .inside) (x .all) in
+      let r : Running c cleared = cleared-running (x .running) (x .queue) (x .inside) (x .all) in
       record {
         chain = r .chain;
         state = r .state;
-        may = finish-may (x .stands .running) (x .queue) (x .inside) (x .all) (x .over) (λ z. omega (arith, x .stands .counts node (x .inside))) (full-now h);
+        may = finish-may (x .running) (x .queue) (x .inside) (x .all) (x .over) (λ z. omega (arith, x .count)) (full-now h);
       }
 
   ends-over : fullIn l f i ≡ true → FinishedTo c u node f e false
   ends-over h = let q : finished c after ≡ overflowed after (after .clock) node = ends-is ∙ finish-over c after (x .queue) (full-now h) in record {
     outcome = ap (λ (y : Ticked). y .outcome) q ∙ ap (λ (t : ℕ). Overflowed t node) (worked-clock u node);
-    shows = subst (λ (y : Ticked). Shows f c (y .run)) (sym q) (shows-as (x .stands .shown .shows) (worked-counts u node) (worked-held u node));
+    shows = subst (λ (y : Ticked). Shows f c (y .run)) (sym q) (shows-as (x .shown .shows) (worked-counts u node) (worked-held u node));
     done = x .done ∙ ap (λ (y : Ticked). y .run .done) (sym q);
   }
 
@@ -232,14 +232,14 @@ module _ {l f e : List ℕ} {i : ℕ} where
   finish-rooms a = record {
     chain = a .chain;
     run = a .run;
-    shown = a .ends .stands .shown;
-    running = a .ends .stands .running;
+    shown = a .ends .shown;
+    running = a .ends .running;
     node = omega (arith, a .ends .is, a .ends .inside);
   }
 
   -- N_i has a queue before it
   pub finish-node : Ends l f e i → (0 < i) × (i ≤ 16)
-  finish-node a = (omega (arith, a .ends .is), omega (arith, a .ends .is, a .ends .inside, a .ends .stands .shown .shows .few))
+  finish-node a = (omega (arith, a .ends .is), omega (arith, a .ends .is, a .ends .inside, a .ends .shown .shows .few))
 
   pub finish-ready : Ends l f e i → fullIn l f i ≡ false → Ready f i
   finish-ready a h = rw (a .ends .is) (record {
@@ -247,7 +247,7 @@ module _ {l f e : List ℕ} {i : ℕ} where
     run = cleared (a .ends);
     shows = cleared-shown (a .ends);
     firing = ends-firing (a .ends) h;
-    word = omega (arith, a .ends .stands .counts (suc (a .ends .queue)) (a .ends .inside), ap (λ (y : List ℕ). getD y (suc (a .ends .queue)) 0) (worked-counts (a .run) (suc (a .ends .queue))));
+    word = omega (arith, a .ends .count, ap (λ (y : List ℕ). getD y (suc (a .ends .queue)) 0) (worked-counts (a .run) (suc (a .ends .queue))));
   })
 
   pub finish-spills : fullIn l f i ≡ true → FinishedGives l f e i f e false

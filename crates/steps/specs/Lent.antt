@@ -111,11 +111,13 @@ endedAt l e (suc j) = leb (workIn l j) (getD e j 0)
 
 -- N_i, over threshold, has worked its execution time in the tick after the state u
 pub record EndsIn (l f e : List ℕ) (i : ℕ) (c : Chain) (u : Run) : Type 0 where
-  pub stands : Stands l f c u
+  pub shown : Shown l f c u
+  pub running : Running c u
   pub queue : ℕ
   pub is : i ≡ suc queue
   pub inside : queue < c .n
   pub over : Over c u (suc queue)
+  pub count : countAt u (suc queue) < limit
   pub all : doneAt u queue + 1 ≡ workOf c queue
   pub done : e ≡ worked u (suc queue) .done
 

@@ -3,6 +3,7 @@
 ghost use mathlib.Core.Path.{_≡_};
 ghost use Prim.Native.Nat.{_≤_};
 ghost use Rattle.steps.specs.Lent.{fullIn, Rooms, Sources, SourcedGives, Looks, LackingGives, ChosenGives, workedIn, Works, endedAt, Ends, FinishedGives, BegunGives};
+ghost use Rattle.steps.specs.Passed.{Stand, DuesGive, Passes, PassGives};
 use deadline::CAPACITY;
 use deadline::NEVER;
 use deadline::PERIOD;
@@ -30,6 +31,54 @@ pub const STALE: usize = 17;
 pub struct Start {
     pub kind: u32,
     pub node: usize,
+}
+
+// What one tick leaves: how it ended, the clock, the node that worked, the queue that overflowed or the node without a
+// deadline, and whether the node that worked has fired.
+pub struct Passed {
+    pub kind: u32,
+    pub tick: u32,
+    pub node: usize,
+    pub fired: bool,
+}
+
+// One tick: the source's step, 13, the choice, one tick of work, and the effect of a firing then finished.
+pub fn pass(
+    plan: &[u32; PLAN],
+    flow: &mut [u32; LENGTH],
+    due: &[u64; 16],
+    done: &mut [u32; 16],
+    clock: u32,
+    node: usize,
+) -> Passed
+    requires { ⌜ Passes (now plan) (now flow) (now due) (now done) clock node ⌝ }
+    ensures { λ r. ⌜ PassGives (now (plan .entry)) (now (flow .entry)) (now (due .entry)) (now (done .entry)) clock node (now (flow .exit)) (now (done .exit)) r ⌝ }
+{
+    let start = begun(plan, flow, due, clock, node);
+    let i = start.node;
+    if start.kind != CLEAN {
+        return left(start.kind, clock, i, false);
+    }
+    worked(done, i);
+    if has_ended(plan, done, i) {
+        if finished(plan, flow, done, i) {
+            return left(CLEAN, clock + 1, i, true);
+        }
+        return left(OVERFLOWED, clock + 1, i, false);
+    }
+    left(CLEAN, clock + 1, i, false)
+}
+
+// What one tick leaves.
+fn left(kind: u32, tick: u32, node: usize, fired: bool) -> Passed
+    ensures { λ r. ⌜ r ≡ record { kind = kind; tick = tick; node = node; fired = fired } ⌝ }
+{
+    Passed {
+        kind: kind,
+        tick: tick,
+        node: node,
+        fired: fired,
+    }
 }
 
 // The source's step, then 13, then the choice. The choice of the tick before stands where the source has not fired; what
@@ -73,6 +122,24 @@ pub fn begun(
         kind: CLEAN,
         node: chosen(flow, due),
     }
+}
+
+// The deadline of the next firing of every node, or of those alone that a tick may look at: the nodes over threshold, and
+// the first, which the source may bring there.
+pub fn dues(plan: &[u32; PLAN], flow: &[u32; LENGTH], every: bool) -> [u64; 16]
+    requires { ⌜ Stand (now plan) (now flow) ⌝ }
+    ensures { λ r. ⌜ DuesGive (now (plan .entry)) (now (flow .entry)) every 16 r ⌝ }
+{
+    let n = flow[SIZE] as usize;
+    let mut due = [0; 16];
+    let mut j = 0;
+    while j < n {
+        if every | (j == 0) | (flow[THRESHOLD + j] <= flow[HELD + j]) {
+            due[j] = deadline::dated(plan, flow, j + 1);
+        }
+        j += 1;
+    }
+    due
 }
 
 // The source's step: it fires where its period divides the clock; false where its production does not fit.
