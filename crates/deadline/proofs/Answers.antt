@@ -11,12 +11,11 @@ use Rattle.chain.specs.Record.{rowOf}
 use Rattle.chain.specs.Sound.{Sound}
 use Rattle.chain.specs.declared.Refusal.{Refusal}
 use Rattle.chain.specs.declared.Chain.{Chain}
-use Rattle.sizing.specs.Sizes.{sized, sized-fine}
-use Rattle.sizing.specs.Checks.{limit, runChecks, runRefusal, runAnswer}
-use Rattle.sizing.specs.Accepted.{run-accepts}
+use Rattle.sizing.specs.Checks.{limit, runAnswer}
+use Rattle.sizing.specs.Accepted.{run-accepts, run-said, run-quiet}
 use Rattle.sizing.specs.declared.AnalysisAnswer.{AnalysisAnswer}
 use Rattle.state.specs.State.{countAt, freshRun}
-use Rattle.state.specs.Checks.{Analysed}
+use Rattle.state.specs.Checks.{analysed-run}
 use Rattle.state.specs.declared.Run.{Run}
 use Rattle.flow.specs.Flow.{countIn, Shows}
 use Rattle.deadlines.specs.Deadline.{earlier, deadline, indexCheck}
@@ -40,29 +39,20 @@ index-last c (suc i) k = by (ltb limit k) (index-last c i (earlier (rowOf c i) k
     by false e = e
 
 module _ (c : Chain) (i k : ℕ) {a : AnalysisAnswer} (e : a ≡ runAnswer c) where
-  -- what the chain is refused with
-  says : refused (a .number) (a .place) ≡ runRefusal c
-  unfolding runAnswer sized
-  says = ap (λ (b : AnalysisAnswer). refused (b .number) (b .place)) e
-
   -- a refusal gives no deadline
   back : {r : Refusal} → r ≡ deadlineRefusal c i k → (Silent r → ⊥) → refusedWith (r .number) (r .place) ≡ deadlineAnswer c i k
   unfolding deadlineAnswer
   back {r} f n = answered-refused r (deadline c i k) n ∙ ap (λ (g : Refusal). answeredDue g (deadline c i k)) f
 
   pub chain-refuses : (a .number ≡ 0 → ⊥) → refusedWith (a .number) (a .place) ≡ deadlineAnswer c i k
-  chain-refuses n = back (or-left _ says n ∙ sym (deadline-parts c i k)) n
+  chain-refuses n = back (or-left _ (run-said c e) n ∙ sym (deadline-parts c i k)) n
 
   module _ (z : a .number ≡ 0) where
     pub sound-chain : Sound c
-    sound-chain = run-accepts c .0 (silent-as says z) .0 .chain
-
-    pub analysed : Analysed c (a .analysis)
-    unfolding runAnswer runRefusal sized
-    analysed = record { chain = sound-chain; sizes = ap (λ (b : AnalysisAnswer). b .analysis) (e ∙ sym (sized-fine c (sym (first-fine (runChecks c) (silent-as says z))))) }
+    sound-chain = analysed-run c e z .chain
 
     own : {r : Refusal} → r ≡ first (askCheck c i k ∷ indexCheck c i k ∷ []) → r ≡ deadlineRefusal c i k
-    own f = or-right says z f ∙ sym (deadline-parts c i k)
+    own f = or-right (run-said c e) z f ∙ sym (deadline-parts c i k)
 
     pub ask-refuses : (ltb (c .n) i || eqb k 0) ≡ true → refusedWith 11 i ≡ deadlineAnswer c i k
     unfolding first

@@ -1,4 +1,6 @@
 -- A flow into which the counts and contents of a state are poured.
+--   Typed s                  what the type of a run state says of it: how many slots it has, and that its counts are words
+--   Showing l c s            the flow shows such a state
 --   Poured l s i m           m has the first i counts of s, and what the first i queues hold there; its rows are those of l
 --   Full l s m               m has the sink's count, too
 --   poured-none, -more, -end at the start, with one more of each, and after the last
@@ -14,10 +16,23 @@ use lib.ListN.{length, getD, set, length-set}
 use lib.Seq.{getD-set-same, getD-set-other}
 use Rattle.words.specs.Table.{is-tab}
 use Rattle.chain.specs.declared.Chain.{Chain}
+use Rattle.sizing.specs.Checks.{limit}
 use Rattle.state.specs.State.{countAt, heldAt, freshRun, same-run}
 use Rattle.state.specs.declared.Run.{Run}
 use Rattle.flow.specs.Flow.{countIn, heldIn, Shows}
 use Rattle.flow.specs.Shown.{shown}
+
+-- what the type of a run state says of it
+pub record Typed (s : Run) : Type 0 where
+  pub counts : length (s .counts) ≡ 17
+  pub held : length (s .held) ≡ 16
+  pub done : length (s .done) ≡ 16
+  pub words : (i : ℕ) → countAt s i ≤ limit
+
+-- the flow shows such a state
+pub record Showing (l : List ℕ) (c : Chain) (s : Run) : Type 0 where
+  pub shows : Shows l c s
+  pub typed : Typed s
 
 -- the first i counts and contents
 pub record Poured (l : List ℕ) (s : Run) (i : ℕ) (m : List ℕ) : Type 0 where
@@ -76,25 +91,28 @@ pub poured-end : {l m : List ℕ} {s : Run} (i : ℕ) → 16 ≤ i → Poured l 
 poured-end {l} {m} {s} i h p = let e : i ≡ 16 = omega (arith, p .reach) in subst (λ (k : ℕ). Poured l s k m) e p
 
 -- the rows of a chain are those that were there
-pub poured-shows : {l m : List ℕ} {c : Chain} {s t : Run} → Shows l c t → length (s .counts) ≡ 17 → length (s .held) ≡ 16 → Full l s m → Shows m c s
-poured-shows {l} {m} {c} {s} x wide deep f =
-    let p : Poured l s 16 (f .before) = f .poured in
-    let other : (y : ℕ) → y ≢ 64 → getD (set (f .before) 64 (countAt s 16)) y 0 ≡ getD (f .before) y 0 = λ y n. getD-set-other (f .before) 64 y _ 0 n in
-    rw (f .last) (record {
-      long = length-set (f .before) 64 _ ∙ p .long ∙ x .long;
-      many = other 82 (λ e. omega arith) ∙ p .size ∙ x .many;
-      few = x .few;
-      puts = λ j h. other j (λ e. omega (arith, x .few)) ∙ p .rest j (omega (arith, x .few)) ∙ x .puts j h;
-      waits = λ j h. other (16 + j) (λ e. omega (arith, x .few)) ∙ p .rest (16 + j) (omega (arith, x .few)) ∙ x .waits j h;
-      takes = λ j h. other (32 + j) (λ e. omega (arith, x .few)) ∙ p .rest (32 + j) (omega (arith, x .few)) ∙ x .takes j h;
-      wide = wide;
-      deep = deep;
-      counts = λ j h. ⊎-elim
-          (λ e. rw e (getD-set-same (f .before) 64 _ 0 (omega (arith, p .long, x .long))))
-          (λ g. other (48 + j) (λ e. omega arith) ∙ p .counts j g)
-          (eq-or-lt-of-le {n = j} {m = 16} (omega arith));
-      holds = λ j h. other (65 + j) (λ e. omega arith) ∙ p .holds j h;
-    })
+pub poured-shows : {l m : List ℕ} {c : Chain} {s t : Run} → Shows l c t → Typed s → Full l s m → Showing m c s
+poured-shows {l} {m} {c} {s} x typed f = record { shows = shown-now; typed = typed }
+  where
+    shown-now : Shows m c s
+    shown-now =
+        let p : Poured l s 16 (f .before) = f .poured in
+        let other : (y : ℕ) → y ≢ 64 → getD (set (f .before) 64 (countAt s 16)) y 0 ≡ getD (f .before) y 0 = λ y n. getD-set-other (f .before) 64 y _ 0 n in
+        rw (f .last) (record {
+          long = length-set (f .before) 64 _ ∙ p .long ∙ x .long;
+          many = other 82 (λ e. omega arith) ∙ p .size ∙ x .many;
+          few = x .few;
+          puts = λ j h. other j (λ e. omega (arith, x .few)) ∙ p .rest j (omega (arith, x .few)) ∙ x .puts j h;
+          waits = λ j h. other (16 + j) (λ e. omega (arith, x .few)) ∙ p .rest (16 + j) (omega (arith, x .few)) ∙ x .waits j h;
+          takes = λ j h. other (32 + j) (λ e. omega (arith, x .few)) ∙ p .rest (32 + j) (omega (arith, x .few)) ∙ x .takes j h;
+          wide = typed .counts;
+          deep = typed .held;
+          counts = λ j h. ⊎-elim
+              (λ e. rw e (getD-set-same (f .before) 64 _ 0 (omega (arith, p .long, x .long))))
+              (λ g. other (48 + j) (λ e. omega arith) ∙ p .counts j g)
+              (eq-or-lt-of-le {n = j} {m = 16} (omega arith));
+          holds = λ j h. other (65 + j) (λ e. omega arith) ∙ p .holds j h;
+        })
 
 -- the counts and contents of a state that a flow shows, with its clock and work done
 pub shown-with : {l : List ℕ} {c : Chain} {s : Run} → Shows l c s → record { clock = s .clock; counts = shown l .counts; held = shown l .held; done = s .done } ≡ s

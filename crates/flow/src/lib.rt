@@ -6,7 +6,7 @@ ghost use Rattle.chain.specs.Sound.{Sound};
 ghost use Rattle.state.specs.State.{freshRun};
 ghost use Rattle.flow.specs.Flow.{putIn, takenOut, firing, Ready, Puts, Takes, Shows};
 ghost use Rattle.flow.specs.Shown.{shown};
-ghost use Rattle.flow.specs.Poured.{Full};
+ghost use Rattle.flow.specs.Poured.{Showing, Full};
 use chain::Chain;
 use state::Run;
 
@@ -80,7 +80,7 @@ pub fn started(chain: Chain) -> [u32; LENGTH]
 // The flow of a chain at a state.
 pub fn showing(chain: Chain, run: Run) -> [u32; LENGTH]
     requires { ⌜ Sound chain ⌝ }
-    ensures { λ r. ⌜ Shows r chain run ⌝ }
+    ensures { λ r. ⌜ Showing r chain run ⌝ }
 {
     let mut flow = started(chain);
     pour(&mut flow, run);

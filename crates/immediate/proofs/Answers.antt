@@ -5,9 +5,8 @@ use Rattle.chain.specs.Refusals.{refused, first-fine, Silent, silent-as, or-lef
 use Rattle.chain.specs.Sound.{Sound}
 use Rattle.chain.specs.declared.Refusal.{Refusal}
 use Rattle.chain.specs.declared.Chain.{Chain}
-use Rattle.sizing.specs.Sizes.{sized}
-use Rattle.sizing.specs.Checks.{runRefusal, runAnswer}
-use Rattle.sizing.specs.Accepted.{run-accepts}
+use Rattle.sizing.specs.Checks.{runAnswer}
+use Rattle.sizing.specs.Accepted.{run-accepts, run-said, run-quiet}
 use Rattle.sizing.specs.declared.AnalysisAnswer.{AnalysisAnswer}
 use Rattle.state.specs.State.{emptyRun, freshRun, answered, answered-refused, answered-fine, refusedWith}
 use Rattle.state.specs.declared.Run.{Run}
@@ -17,26 +16,21 @@ use Rattle.immediate.specs.Checks.{lengthCheck, immediateChecks, immedia
 use Rattle.immediate.specs.Steps.{Bounds}
 
 module _ (c : Chain) (k : ℕ) {a : AnalysisAnswer} (e : a ≡ runAnswer c) where
-  -- what the chain is refused with
-  says : refused (a .number) (a .place) ≡ runRefusal c
-  unfolding runAnswer sized
-  says = ap (λ (b : AnalysisAnswer). refused (b .number) (b .place)) e
-
   -- a refusal gives an empty state
   back : {r : Refusal} → r ≡ immediateRefusal c k → (Silent r → ⊥) → refusedWith (r .number) (r .place) emptyRun ≡ immediateAnswer c k
   unfolding immediateAnswer
   back {r} f n = answered-refused r emptyRun (after c (freshRun c) (schedule c k)) n ∙ ap (λ (g : Refusal). answered g emptyRun (after c (freshRun c) (schedule c k))) f
 
   pub chain-refuses : (a .number ≡ 0 → ⊥) → refusedWith (a .number) (a .place) emptyRun ≡ immediateAnswer c k
-  chain-refuses n = back (or-left (lengthCheck c k) says n ∙ sym (immediate-parts c k)) n
+  chain-refuses n = back (or-left (lengthCheck c k) (run-said c e) n ∙ sym (immediate-parts c k)) n
 
   module _ (z : a .number ≡ 0) where
     pub sound-chain : Sound c
-    sound-chain = run-accepts c .0 (silent-as says z) .0 .chain
+    sound-chain = run-accepts c .0 (run-quiet c e z) .0 .chain
 
     module _ {r : Refusal} (f : r ≡ lengthCheck c k) where
       whole : r ≡ immediateRefusal c k
-      whole = or-right says z f ∙ sym (immediate-parts c k)
+      whole = or-right (run-said c e) z f ∙ sym (immediate-parts c k)
 
       pub length-refuses : (Silent r → ⊥) → refusedWith (r .number) (r .place) emptyRun ≡ immediateAnswer c k
       length-refuses n = back whole n

@@ -39,7 +39,7 @@ onward-none r = by (r .outcome) (r .run)
     by (NoDeadline t i) s = refl
 
 module _ (c : Chain) where
-  ticks-none : (s : Run) → ticks c 0 s ≡ clean s
+  pub ticks-none : (s : Run) → ticks c 0 s ≡ clean s
   unfolding ticks
   ticks-none s = refl
 

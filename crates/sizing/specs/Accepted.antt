@@ -4,6 +4,8 @@
 --   analyse-accepts          a chain is not refused exactly when it is accepted
 --   analysed                 the same of an answer that code was given
 --   run-accepts              and a run does not refuse it exactly when each of its capacities is enough, too
+--   run-said, -quiet, -analysis
+--                            what code was answered that asked whether a chain may run
 --   SizeFits q, size-fits    the numbers of a queue's line: x and y up to the limit, minimum up to 131,069, naming count up to
 --                            65,535, capacity up to 1,000,000, and the margin between minus and plus a million
 --   busy-fits, cycle-fits    the load
@@ -16,7 +18,7 @@ use native.Mathlib.Omega.{arith}
 use lib.Dec.{ltb}
 use borrow.Author.Tests.{ltb-true}
 use lib.IntN.{pos, negsuc, natAbs}
-use Rattle.chain.specs.Refusals.{first, Silent, Silents, silent-as, first-silent, first-fine, or-silents}
+use Rattle.chain.specs.Refusals.{refused, first, Silent, Silents, silent-as, first-silent, first-fine, or-silents}
 use Rattle.chain.specs.Checks.{chainRefusal}
 use Rattle.chain.specs.Sound.{Sound, sound}
 use Rattle.chain.specs.declared.Chain.{Chain}
@@ -24,7 +26,7 @@ use Rattle.onequeue.specs.Capacity.{margin}
 use Rattle.sizing.specs.Nodes.{yOf}
 use Rattle.sizing.specs.Load.{busyOf, cycleOf}
 use Rattle.sizing.specs.Sizes.{sizeBy, sizeOf, analysisOf, sized, sized-fine, minimum-most, naming-most, capacity-most}
-use Rattle.sizing.specs.Checks.{limit, InLimit, Enough, sizeChecks, analyseChecks, analyseRefusal, analyseAnswer, runRefusal, capacityCheck, analyse-parts, run-parts, rates-silent, load-silent, capacity-silent}
+use Rattle.sizing.specs.Checks.{limit, InLimit, Enough, sizeChecks, analyseChecks, analyseRefusal, analyseAnswer, runChecks, runRefusal, runAnswer, capacityCheck, analyse-parts, run-parts, rates-silent, load-silent, capacity-silent}
 use Rattle.sizing.specs.declared.QueueSize.{QueueSize}
 use Rattle.sizing.specs.declared.AnalysisAnswer.{AnalysisAnswer}
 
@@ -60,6 +62,19 @@ pub run-accepts : (c : Chain) → Silent (runRefusal c) ↔ (Accepted c × ((i :
 run-accepts c =
     Iff·trans (silent-as (run-parts c), silent-as (sym (run-parts c)))
     (Iff·trans (or-silents (analyseRefusal c) (capacityCheck c)) (Iff·and (analyse-accepts c) (capacity-silent c)))
+
+-- what code was answered that asked whether a chain may run: the refusal, or the analysis of a chain that may
+module _ {a : AnalysisAnswer} (c : Chain) (e : a ≡ runAnswer c) where
+  pub run-said : refused (a .number) (a .place) ≡ runRefusal c
+  unfolding runAnswer sized
+  run-said = ap (λ (b : AnalysisAnswer). refused (b .number) (b .place)) e
+
+  pub run-quiet : a .number ≡ 0 → Silent (runRefusal c)
+  run-quiet z = silent-as run-said z
+
+  pub run-analysis : a .number ≡ 0 → a .analysis ≡ analysisOf c
+  unfolding runAnswer runRefusal sized
+  run-analysis z = ap (λ (b : AnalysisAnswer). b .analysis) (e ∙ sym (sized-fine c (sym (first-fine (runChecks c) (run-quiet z)))))
 
 -- the numbers of a queue's line
 pub record SizeFits (q : QueueSize) : Type 0 where

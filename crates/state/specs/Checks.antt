@@ -20,7 +20,7 @@
 --   steady-silent, broken-says 17 of one queue: silent where it has no reason, and speaking where it has one
 --   state-, count-, over-, room-only
 --                              and speaks with its own number
---   Analysed c a, Ruled q k, ruled
+--   Analysed c a, analysed-run, Ruled q k, ruled
 --                              what the code is handed: a sound chain and its analysis, a sound queue and its capacity, which the analysis has
 use mathlib.Core.Path.{_≡_, refl, ap, _∙_}
 use mathlib.Core.Bool.{Bool, true, false, not, _||_, _&&_}
@@ -43,8 +43,10 @@ use Rattle.onequeue.specs.Minimum.{minimum}
 use Rattle.chain.specs.Sound.{Sound, SoundRow}
 use Rattle.sizing.specs.Sizes.{start, capacityOf, noSize, sizeBy, analysisOf, size-at}
 use Rattle.sizing.specs.declared.QueueSize.{QueueSize}
+use Rattle.sizing.specs.Accepted.{run-accepts, run-quiet, run-analysis}
 use Rattle.sizing.specs.declared.Analysis.{Analysis}
-use Rattle.sizing.specs.Checks.{limit}
+use Rattle.sizing.specs.declared.AnalysisAnswer.{AnalysisAnswer}
+use Rattle.sizing.specs.Checks.{limit, runAnswer}
 use Rattle.state.specs.State.{countAt, heldAt, doneAt}
 use Rattle.state.specs.Fired.{Balance, Over, Room}
 use Rattle.state.specs.declared.Run.{Run}
@@ -199,3 +201,7 @@ ruled {c} k i l = record {
   sound = k .chain .rows i l;
   capacity = ap (λ (b : Analysis). getD (b .queues) i noSize .capacity) (k .sizes) ∙ ap (λ (z : QueueSize). z .capacity) (size-at c i (k .chain .count .1) l);
 }
+
+-- a chain that may run, and its analysis, as code was answered
+pub analysed-run : {a : AnalysisAnswer} (c : Chain) → a ≡ runAnswer c → a .number ≡ 0 → Analysed c (a .analysis)
+analysed-run c e z = record { chain = run-accepts c .0 (run-quiet c e z) .0 .chain; sizes = run-analysis c e z }

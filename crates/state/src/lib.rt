@@ -112,7 +112,7 @@ pub fn given_back(number: u32, place: u32, run: Run) -> RunAnswer
 }
 
 // 17: the lowest queue of which the state breaks the balance, passes the capacity, or has all the work of a firing done.
-fn state_check(chain: Chain, analysis: Analysis, run: Run) -> Refusal
+pub fn state_check(chain: Chain, analysis: Analysis, run: Run) -> Refusal
     requires { ⌜ Analysed chain analysis ⌝ }
     ensures { λ r. ⌜ r ≡ stateCheck chain run ⌝ }
 {

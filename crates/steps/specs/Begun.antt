@@ -6,7 +6,7 @@
 --   sourced-as, begun-size   what was tested of the source's step, and the number of queues, after the source's step
 use mathlib.Core.Path.{_≡_, refl, sym, ap, subst, _∙_}
 use mathlib.Core.Logic.{_≢_, by-cases}
-use mathlib.Core.Bool.{Bool, true, false, cond, not}
+use mathlib.Core.Bool.{Bool, true, false, cond, not, _&&_}
 use mathlib.Core.List.{List}
 use Prim.Native.Nat.{ℕ, zero, suc, _+_, _≤_, _<_}
 use native.Mathlib.Decide.{ℕ-discrete}
@@ -15,16 +15,17 @@ use lib.Dec.{eqb}
 use lib.ListN.{getD, set, length-set}
 use lib.Seq.{getD-set-same, getD-set-other}
 use borrow.Author.Tests.{eq-eqb, ne-eqb}
-use Rattle.chain.specs.Refusals.{refused, Silent, number-of}
+use Rattle.chain.specs.Refusals.{refused, Silent, number-of, lowest-is, test-exact}
 use Rattle.chain.specs.declared.Refusal.{Refusal}
 use Rattle.chain.specs.declared.Chain.{Chain}
 use Rattle.state.specs.State.{countAt, heldAt}
 use Rattle.state.specs.Fired.{fired, count-fired, held-other}
-use Rattle.state.specs.Checks.{cramped}
+use Rattle.state.specs.Checks.{over, cramped}
 use Rattle.state.specs.declared.Run.{Run}
 use Rattle.flow.specs.Flow.{countIn, heldIn, sizeIn, Shows}
-use Rattle.instants.specs.Steps.{clean, overflowed, undated, goes, onward, divides, sourced, lacking, chosen, begun}
-use Rattle.instants.specs.Kept.{Running, Countable, SourceStep, sourced-clean, unclean-overflow}
+use Rattle.deadlines.specs.Deadline.{indexCheck}
+use Rattle.instants.specs.Steps.{next, clean, overflowed, undated, goes, onward, divides, sourced, lackingTest, lacking, chosen, begun}
+use Rattle.instants.specs.Kept.{Running, Countable, SourceStep, sourced-clean, chosen-low, unclean-overflow}
 use Rattle.instants.specs.declared.Outcome.{Outcome}
 use Rattle.instants.specs.declared.Outcome.the-variants.{Clean, Overflowed, NoDeadline}
 use Rattle.instants.specs.declared.Ticked.{Ticked}
@@ -76,12 +77,23 @@ module _ (c : Chain) (s : Run) where
     after-lack : (i : ℕ) → lacking c (sourced c s .run) ≡ refused 13 i → begun c s ≡ undated s (s .clock) i
     after-lack i e = after-clean ∙ ap (λ (x : Refusal). cond (eqb (x .number) 0) (clean (sourced c s .run)) (undated s (s .clock) (x .place))) e
 
+-- 13's node is one of the chain
+lack-place : (c : Chain) (u : Run) (j m : ℕ) → lackingTest c u j ≡ refused 13 m → m ≡ j
+lack-place c u j m e = test-exact 13 m j (λ z. omega arith) (over c u j && not (eqb (indexCheck c j (next u j) .number) 0)) .0 e .1
+
+lacking-low : (c : Chain) (u : Run) (m : ℕ) → lacking c u ≡ refused 13 m → m ≤ c .n
+unfolding lacking
+lacking-low c u m e =
+    let y = lowest-is 13 m (λ z. omega arith) (λ j. lackingTest c u (suc j)) (c .n) .0 e in
+    omega (arith, y .inside, lack-place c u (suc (y .at)) m (y .says))
+
 -- a flow shows what they leave
-begun-to : {c : Chain} {s : Run} {t : ℕ} {g : List ℕ} {r : Start} {x : Ticked} → begun c s ≡ x → x .outcome ≡ outcomeAs (r .kind) t (r .node) → Shows g c (x .run) → (r .kind ≡ 0 → chosen c (x .run) ≡ r .node) → BegunTo c s t g r
-begun-to {c} {s} {t} {g} {r} e o h n = record {
+begun-to : {c : Chain} {s : Run} {t : ℕ} {g : List ℕ} {r : Start} {x : Ticked} → begun c s ≡ x → x .outcome ≡ outcomeAs (r .kind) t (r .node) → Shows g c (x .run) → (r .kind ≡ 0 → chosen c (x .run) ≡ r .node) → r .node ≤ c .n → BegunTo c s t g r
+begun-to {c} {s} {t} {g} {r} e o h n low = record {
   outcome = ap (λ (y : Ticked). y .outcome) e ∙ o;
   shows = subst (λ (y : Ticked). Shows g c (y .run)) (sym e) h;
   node = λ z. ap (λ (y : Ticked). chosen c (y .run)) e ∙ n z;
+  low = low;
 }
 
 -- what the source put in is taken back
@@ -120,7 +132,7 @@ module _ {l f g : List ℕ} {t : ℕ} where
   begun-spills a = record {
     gives = λ {c} {s} x k q n.
         let b : SourcedTo c s t g false = a .gives x k in
-        begun-to (after-over c s (b .outcome)) (b .outcome) (b .shows) (λ z. absurd (omega arith));
+        begun-to (after-over c s (b .outcome)) (b .outcome) (b .shows) (λ z. absurd (omega arith)) (omega arith);
   }
 
   module _ (a : SourcedGives l f t g true) where
@@ -133,7 +145,7 @@ module _ {l f g : List ℕ} {t : ℕ} where
           let b : SourcedTo c s t g true = a .gives x k in
           let still : sourced c s ≡ clean s = source-still (x .running) (b .outcome) (sym (b .shows .counts 0 (omega arith)) ∙ same ∙ x .shown .shows .counts 0 (omega arith)) in
           let is : sourced c s .run ≡ s = ap (λ (y : Ticked). y .run) still in
-          begun-to (after-silent c s (b .outcome) (subst (λ (u : Run). Silent (lacking c u)) (sym is) (n low .0))) refl (b .shows) (λ z. subst (λ (u : Run). chosen c u ≡ i) (sym is) (n low .1));
+          begun-to (after-silent c s (b .outcome) (subst (λ (u : Run). Silent (lacking c u)) (sym is) (n low .0))) refl (b .shows) (λ z. subst (λ (u : Run). chosen c u ≡ i) (sym is) (n low .1)) (subst (λ (k : ℕ). k ≤ c .n) (n low .1) (chosen-low c s));
     }
 
     module _ {d : List ℕ} {m : ℕ} (b : LackingGives g d m) where
@@ -145,7 +157,7 @@ module _ {l f g : List ℕ} {t : ℕ} where
         gives = λ {c} {s} x k q n.
             let o : sourced c s .outcome ≡ Clean = a .gives x k .outcome in
             let says : lackOf m ≡ refused 13 m = simp (ne-eqb m 0 some) in
-            begun-to (after-lack c s o m (lack-is x k q ∙ says)) (ap (λ (u : ℕ). NoDeadline u m) k) (restored x o (a .gives x k .shows)) (λ z. absurd (omega arith));
+            begun-to (after-lack c s o m (lack-is x k q ∙ says)) (ap (λ (u : ℕ). NoDeadline u m) k) (restored x o (a .gives x k .shows)) (λ z. absurd (omega arith)) (lacking-low c (sourced c s .run) m (lack-is x k q ∙ says));
       }
 
       pub begun-chooses : {i r : ℕ} → m ≡ 0 → ChosenGives g d r → BegunGives l f d t i g (record { kind = 0; node = r })
@@ -153,5 +165,6 @@ module _ {l f g : List ℕ} {t : ℕ} where
         gives = λ {c} {s} x k q n.
             let y : SourcedTo c s t g true = a .gives x k in
             let silent : Silent (lacking c (sourced c s .run)) = number-of (lack-is x k q ∙ ap lackOf none) in
-            begun-to (after-silent c s (y .outcome) silent) refl (y .shows) (λ z. h .gives (x .running .chain .chain) (y .shows) q silent);
+            let is : chosen c (sourced c s .run) ≡ r = h .gives (x .running .chain .chain) (y .shows) q silent in
+            begun-to (after-silent c s (y .outcome) silent) refl (y .shows) (λ z. is) (subst (λ (k : ℕ). k ≤ c .n) is (chosen-low c (sourced c s .run)));
       }

@@ -85,5 +85,6 @@ module _ {l f : List ℕ} {every : Bool} {j : ℕ} {d : List ℕ} (a : Dued l f 
           (eq-or-lt-of-le {n = k} {m = j} (omega arith));
     };
   }
+
 pub dued-end : {l f : List ℕ} {every : Bool} {j : ℕ} {d : List ℕ} → Dued l f every j d → sizeIn f ≤ j → DuesGive l f every 16 d
 dued-end a h = record { gives = λ x k m n w. a .give .gives x k (omega (arith, x .shown .shows .many)) n w }

@@ -150,6 +150,7 @@ pub record BegunTo (c : Chain) (s : Run) (t : ℕ) (g : List ℕ) (r : Start) : 
   pub outcome : begun c s .outcome ≡ outcomeAs (r .kind) t (r .node)
   pub shows : Shows g c (begun c s .run)
   pub node : r .kind ≡ 0 → chosen c (begun c s .run) ≡ r .node
+  pub low : r .node ≤ c .n
 
 -- and of every state that is shown
 pub record BegunGives (l f d : List ℕ) (t i : ℕ) (g : List ℕ) (r : Start) : Type 0 where

@@ -60,7 +60,8 @@ pub record PassTo (c : Chain) (s : Run) (g h : List ℕ) (r : Passed) : Type 0 w
   pub done : h ≡ tick c s .run .done
   pub known : r .kind ≡ 0 → r .fired ≡ false → Known c (tick c s .run) (r .node)
   pub others : r .kind ≡ 0 → (j : ℕ) → (r .fired ≡ true → r .node ≢ suc j) → countAt (tick c s .run) (suc j) ≡ countAt s (suc j)
-  pub node : r .fired ≡ true → (0 < r .node) × (r .node ≤ c .n)
+  pub some : r .fired ≡ true → 0 < r .node
+  pub low : r .node ≤ c .n
 
 -- and of every such state
 pub record PassGives (l f d e : List ℕ) (t i : ℕ) (g h : List ℕ) (r : Passed) : Type 0 where

@@ -187,11 +187,13 @@ module _ {f d : List ℕ} {j i e : ℕ} (a : Chosen f d j i e) (h : j < sizeIn f
     reach = omega arith;
     is = λ {c} {s} k x q z.
         let l : j < c .n = omega (arith, x .many) in
-        let was = a .is k x q z in
-        (by-cases (decLe (rowOf c j .threshold) (heldAt s j))
-        (λ o. let now = kept-due k x q z j l o in new-later c s j (late c s (suc j) (choice c s j) (omega (arith, now .0, now .1)) (rw (was .0) (omega (arith, now .0, was .1)))))
-        (λ n. new-under c s j (lt-leb (rowOf c j .threshold) (heldAt s j) (omega arith)))
-        ∙ was .0, was .1);
+        let was = a .is k x q z in (
+          by-cases (decLe (rowOf c j .threshold) (heldAt s j))
+              (λ o. let now = kept-due k x q z j l o in new-later c s j (late c s (suc j) (choice c s j) (omega (arith, now .0, now .1)) (rw (was .0) (omega (arith, now .0, was .1)))))
+              (λ n. new-under c s j (lt-leb (rowOf c j .threshold) (heldAt s j) (omega arith)))
+              ∙ was .0,
+          was .1,
+        );
   })
 
   -- the test that code makes: over threshold, and as early as the best so far

@@ -1,6 +1,7 @@
 -- One tick over what a run lends, one law to each need of its code.
 --   begun-stays              an outcome of the source's step and 13 leaves the state as it was
 --   tick-ends, tick-works    a tick that ends with that outcome, and one that goes on
+--   as-clean, as-unclean     the code 0 is clean, and no other is
 --   Working c s g i          what a tick knows once the source's step and 13 were clean: the state, and the node that works
 --   pass-ends                the tick ends there
 --   pass-node, -works        the node that works is one of the chain, and its work can grow
@@ -127,10 +128,10 @@ pub record Working (c : Chain) (s : Run) (g : List ℕ) (i : ℕ) : Type 0 where
   pub ticked : tick c s ≡ finished c (worked (begun c s .run) i)
 
 -- the code 0 is clean, and no other is
-as-clean : (k t i : ℕ) → k ≡ 0 → outcomeAs k t i ≡ Clean
+pub as-clean : (k t i : ℕ) → k ≡ 0 → outcomeAs k t i ≡ Clean
 as-clean k t i e = simp (eq-eqb k 0 e)
 
-as-unclean : (k t i : ℕ) → k ≢ 0 → outcomeAs k t i ≡ Clean → ⊥
+pub as-unclean : (k t i : ℕ) → k ≢ 0 → outcomeAs k t i ≡ Clean → ⊥
 as-unclean k t i n = by (eqb k 1) (ne-eqb k 0 n)
   where
     by : (b : Bool) → eqb k 0 ≡ false → cond (eqb k 0) Clean (cond b (Overflowed t i) (NoDeadline t i)) ≡ Clean → ⊥
@@ -170,7 +171,8 @@ module _ {l f d e g : List ℕ} {t i : ℕ} {r : Start} (b : BegunGives l f d t 
           done = x .done ∙ ap (λ (v : Run). v .done) (sym stays);
           known = λ z. absurd (n z);
           others = λ z. absurd (n z);
-          node = λ h. absurd (let z : _≡_ {A = ℕ} 0 1 = ap (λ (v : Bool). cond v 1 0) h in omega arith);
+          some = λ h. absurd (let z : _≡_ {A = ℕ} 0 1 = ap (λ (v : Bool). cond v 1 0) h in omega arith);
+          low = y .low;
         };
   }
 
@@ -276,7 +278,8 @@ module _ {l f d e : List ℕ} {t i : ℕ} {c : Chain} {s : Run} {g : List ℕ} {
         known = λ z n. subst (λ (y : Ticked). Known c (y .run) k) (sym q)
             (λ p. (subst Silent (sym (lacking-as c u v (worked-counts u k) (worked-held u k))) (w .silent), chosen-as c u v (worked-counts u k) (worked-held u k) ∙ w .node));
         others = λ z j n. ap (λ (y : Ticked). countAt (y .run) (suc j)) q ∙ ap (λ (y : List ℕ). getD y (suc j) 0) (worked-counts u k) ∙ w .step .others (suc j) (omega arith);
-        node = λ n. absurd (let z : _≡_ {A = ℕ} 0 1 = ap (λ (b : Bool). cond b 1 0) n in omega arith);
+        some = λ n. absurd (let z : _≡_ {A = ℕ} 0 1 = ap (λ (b : Bool). cond b 1 0) n in omega arith);
+        low = low;
       }
 
   -- it has: the effect of its firing is that of a firing finished, and leaves every other count as it was
@@ -302,7 +305,8 @@ module _ {l f d e : List ℕ} {t i : ℕ} {c : Chain} {s : Run} {g : List ℕ} {
         done = y .done ∙ ap (λ (z : Ticked). z .run .done) (sym (w .ticked));
         known = λ z n. absurd (let q : _≡_ {A = ℕ} 1 0 = ap (λ (b : Bool). cond b 1 0) n in omega arith);
         others = λ z j n. others-kept j (n refl);
-        node = λ n. (omega (arith, before h .is), low);
+        some = λ n. omega (arith, before h .is);
+        low = low;
       }
 
       spills : FinishedTo c u k m o false → PassTo c s m o (record { kind = 1; tick = t + 1; node = k; fired = false })
@@ -313,7 +317,8 @@ module _ {l f d e : List ℕ} {t i : ℕ} {c : Chain} {s : Run} {g : List ℕ} {
         done = y .done ∙ ap (λ (z : Ticked). z .run .done) (sym (w .ticked));
         known = λ z. absurd (omega arith);
         others = λ z. absurd (omega arith);
-        node = λ n. absurd (let q : _≡_ {A = ℕ} 0 1 = ap (λ (b : Bool). cond b 1 0) n in omega arith);
+        some = λ n. absurd (let q : _≡_ {A = ℕ} 0 1 = ap (λ (b : Bool). cond b 1 0) n in omega arith);
+        low = low;
       }
 
 -- whether the work is all, as code has it

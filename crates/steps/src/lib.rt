@@ -218,7 +218,12 @@ pub fn has_ended(plan: &[u32; PLAN], done: &[u32; 16], i: usize) -> bool
 }
 
 // The effect of node i's firing, which is finished; false where its production does not fit, and then nothing is changed.
-pub fn finished(plan: &[u32; PLAN], flow: &mut [u32; LENGTH], done: &mut [u32; 16], i: usize) -> bool
+pub fn finished(
+    plan: &[u32; PLAN],
+    flow: &mut [u32; LENGTH],
+    done: &mut [u32; 16],
+    i: usize,
+) -> bool
     requires { ⌜ Ends (now plan) (now flow) (now done) i ⌝ }
     ensures { λ r. ⌜ FinishedGives (now (plan .entry)) (now (flow .entry)) (now (done .entry)) i (now (flow .exit)) (now (done .exit)) r ⌝ }
 {

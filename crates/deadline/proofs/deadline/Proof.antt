@@ -1,7 +1,8 @@
 -- `deadline::deadline` meets its contract: the chain may not run, or there is no such node or firing, or the index is followed down.
 use borrow.Author.Needs.{needs}
 use mathlib.Core.Path.{_∙_}
-use Rattle.deadline.proofs.Answers.{chain-refuses, sound-chain, analysed, ask-refuses, fresh-dues, due-answers}
+use Rattle.state.specs.Checks.{analysed-run}
+use Rattle.deadline.proofs.Answers.{chain-refuses, sound-chain, ask-refuses, fresh-dues, due-answers}
 use Rattle.deadline.proofs.deadline.Statement.{statement}
 use Rattle.deadline.proofs.deadline.Tie as tie
 
@@ -24,7 +25,7 @@ started-requires : tie.Need-started-requires
 started-requires c κs = let a = c .before .before .before .before .before .args in sound-chain _ (a .node) (a .index) (c .before .before .before .before .checked-for-run .ensures) (c .before .before .if1 .left)
 
 planned-requires : tie.Need-planned-requires
-planned-requires c κs = let a = c .before .before .before .before .before .before .args in analysed _ (a .node) (a .index) (c .before .before .before .before .before .checked-for-run .ensures) (c .before .before .before .if1 .left)
+planned-requires c κs = analysed-run _ (c .before .before .before .before .before .checked-for-run .ensures) (c .before .before .before .if1 .left)
 
 due-requires : tie.Need-due-requires
 due-requires c κs = fresh-dues _ _ _ (c .before .before .before .before .before .before .before .before .checked-for-run .ensures) (c .before .before .before .before .before .before .if1 .left) (c .before .before .before .before .if2 .left) (c .before .before .planned .ensures) (c .before .before .before .started .ensures)

@@ -1,0 +1,5 @@
+pub mod Left
+pub mod Runs
+pub mod Late
+pub mod Passes
+pub mod Asked

@@ -1,0 +1,207 @@
+// One tick of a run state, by value, and the deadline run from a fresh start. Both make the same pass over what they lend:
+// a tick once, a run for every tick, its chain being checked once and a node's deadline kept until the node fires.
+ghost use mathlib.Core.Path.{_≡_};
+ghost use mathlib.Core.Bool.{Bool};
+ghost use Prim.Native.Nat.{_≤_};
+ghost use Rattle.chain.specs.Refusals.{orElse};
+ghost use Rattle.instants.specs.Checks.{clockCheck, spentCheck, tickAnswer, deadlineRunAnswer};
+ghost use Rattle.instants.specs.Steps.{tick, ticks};
+ghost use Rattle.instants.specs.Refusals.{ranAs};
+ghost use Rattle.state.specs.Checks.{Analysed};
+ghost use Rattle.state.specs.State.{freshRun};
+ghost use Rattle.steps.specs.Lent.{outcomeAs};
+ghost use Rattle.ticks.specs.Left.{refusedWith, leftBy};
+ghost use Rattle.ticks.specs.Runs.{Few, TickAsk, RunAsk, Lends, RanGives};
+use chain::Chain;
+use chain::Refusal;
+use deadline::PLAN;
+use flow::LENGTH;
+use instants::Outcome;
+use instants::TickAnswer;
+use sizing::Analysis;
+use state::Run;
+use steps::CLEAN;
+use steps::OVERFLOWED;
+use steps::STALE;
+
+// The most ticks of a run, and the clock at which no tick is taken.
+const LONGEST: u32 = 1000000;
+
+// The largest number that a count can be.
+const LIMIT: u32 = 4294967295;
+
+// How a run ended, the clock that it left, and the queue that overflowed or the node without a deadline.
+pub struct Ended {
+    kind: u32,
+    tick: u32,
+    at: usize,
+}
+
+// One tick: how it ended and the state after it, or the state as it was with the first of 2, 4, 5, 6, 7, 8, 17 and 9 that
+// refuses it.
+pub fn tick(chain: Chain, run: Run) -> TickAnswer
+    ensures { λ r. ⌜ r ≡ tickAnswer chain run ⌝ }
+{
+    let sized = sizing::checked_for_run(chain);
+    if sized.number != 0 {
+        return refused(sized.number, sized.place, run);
+    }
+    let damage = state::state_check(chain, sized.analysis, run);
+    if damage.number != 0 {
+        return refused(damage.number, damage.place, run);
+    }
+    let late = late_check(chain, run);
+    if late.number != 0 {
+        return refused(late.number, late.place, run);
+    }
+    ticked(chain, sized.analysis, run)
+}
+
+// A deadline run of so many ticks from a fresh start: how it ended and the state that it left, or the first of 2, 4, 5, 6,
+// 7, 8 and 9 that refuses it.
+pub fn deadline_run(chain: Chain, ticks: u32) -> TickAnswer
+    ensures { λ r. ⌜ r ≡ deadlineRunAnswer chain ticks ⌝ }
+{
+    let sized = sizing::checked_for_run(chain);
+    if sized.number != 0 {
+        return refused(sized.number, sized.place, state::EMPTY);
+    }
+    if LONGEST < ticks {
+        return refused(9, 0, state::EMPTY);
+    }
+    ran(chain, sized.analysis, ticks)
+}
+
+// The answer of a refused call: the refusal, with the state that the call gives then.
+fn refused(number: u32, place: u32, run: Run) -> TickAnswer
+    ensures { λ r. ⌜ r ≡ refusedWith number place run ⌝ }
+{
+    TickAnswer {
+        number: number,
+        place: place,
+        outcome: Outcome::Clean,
+        run: run,
+    }
+}
+
+// 9 of a tick: its clock is at the end of the longest run, or the lowest node's count that cannot grow.
+fn late_check(chain: Chain, run: Run) -> Refusal
+    requires { ⌜ Few chain ⌝ }
+    ensures { λ r. ⌜ r ≡ orElse (clockCheck run) (spentCheck chain run) ⌝ }
+{
+    if LONGEST <= run.clock {
+        return Refusal {
+            number: 9,
+            place: 0,
+        };
+    }
+    let n = chain.n as usize;
+    let mut i = 0;
+    while i <= n {
+        if run.counts[i] == LIMIT {
+            return Refusal {
+                number: 9,
+                place: i as u32,
+            };
+        }
+        i += 1;
+    }
+    chain::FINE
+}
+
+// One tick of a state that no check refuses.
+fn ticked(chain: Chain, analysis: Analysis, run: Run) -> TickAnswer
+    requires { ⌜ TickAsk chain analysis run ⌝ }
+    ensures { λ r. ⌜ r ≡ ranAs (tick chain run) ⌝ }
+{
+    let plan = deadline::planned(chain, analysis);
+    let mut flow = flow::showing(chain, run);
+    let due = steps::dues(&plan, &flow, false);
+    let mut done = run.done;
+    let passed = steps::pass(&plan, &mut flow, &due, &mut done, run.clock, STALE);
+    left(&flow, done, passed.kind, passed.tick, passed.node)
+}
+
+// A run that no check refuses.
+fn ran(chain: Chain, analysis: Analysis, length: u32) -> TickAnswer
+    requires { ⌜ RunAsk chain analysis length ⌝ }
+    ensures { λ r. ⌜ r ≡ ranAs (ticks chain length (freshRun chain)) ⌝ }
+{
+    let plan = deadline::planned(chain, analysis);
+    let mut flow = flow::started(chain);
+    let mut due = steps::dues(&plan, &flow, true);
+    let mut done = [0; 16];
+    let ended = passes(&plan, &mut flow, &mut due, &mut done, length);
+    left(&flow, done, ended.kind, ended.tick, ended.at)
+}
+
+// Tick after tick, up to the first outcome that is not clean.
+fn passes(
+    plan: &[u32; PLAN],
+    flow: &mut [u32; LENGTH],
+    due: &mut [u64; 16],
+    done: &mut [u32; 16],
+    length: u32,
+) -> Ended
+    requires { ⌜ Lends (now plan) (now flow) (now due) (now done) length ⌝ }
+    ensures { λ r. ⌜ RanGives (now (plan .entry)) (now (flow .entry)) (now (due .entry)) (now (done .entry)) length (now (flow .exit)) (now (done .exit)) r ⌝ }
+{
+    let mut clock = 0;
+    let mut node = STALE;
+    while clock < length {
+        let passed = steps::pass(plan, flow, due, done, clock, node);
+        node = passed.node;
+        if passed.kind != CLEAN {
+            return Ended {
+                kind: passed.kind,
+                tick: passed.tick,
+                at: node,
+            };
+        }
+        if passed.fired {
+            due[node - 1] = deadline::dated(plan, flow, node);
+            node = STALE;
+        }
+        clock += 1;
+    }
+    Ended {
+        kind: CLEAN,
+        tick: clock,
+        at: 0,
+    }
+}
+
+// What is left: the outcome of this code, at this tick, and the state that the flow shows, with its clock and work done.
+fn left(flow: &[u32; LENGTH], done: [u32; 16], kind: u32, tick: u32, at: usize) -> TickAnswer
+    requires { ⌜ at ≤ 16 ⌝ }
+    ensures { λ r. ⌜ r ≡ leftBy (now (flow .entry)) done kind tick at ⌝ }
+{
+    let mut run = flow::shown(flow);
+    run.clock = tick;
+    run.done = done;
+    TickAnswer {
+        number: 0,
+        place: 0,
+        outcome: outcome(kind, tick, at as u32),
+        run: run,
+    }
+}
+
+// The outcome of this code, at this tick, with this queue or node.
+fn outcome(kind: u32, tick: u32, at: u32) -> Outcome
+    ensures { λ r. ⌜ r ≡ outcomeAs kind tick at ⌝ }
+{
+    if kind == CLEAN {
+        return Outcome::Clean;
+    }
+    if kind == OVERFLOWED {
+        return Outcome::Overflowed {
+            tick: tick,
+            queue: at,
+        };
+    }
+    Outcome::NoDeadline {
+        tick: tick,
+        node: at,
+    }
+}
