@@ -1,6 +1,7 @@
 /*
  * ardenquill.h - the calls of the library ardenquill for C and C++: reading and writing chain files, the factory
- * chains, the analysis of a chain, the report on a chain file, manual firing and the immediate run.
+ * chains, the analysis of a chain, the report on a chain file, manual firing, the immediate run, deadlines and the
+ * deadline run.
  *
  * A chain has nodes N_0 (the source) to N_n (the sink), n from 1 to 16; queue i leads from N_i to N_(i+1).
  *
@@ -60,20 +61,38 @@ enum ardenquill_refusal {
     /* A queue's capacity is not 0 and below its minimum. Place: the lowest such queue. */
     ARDENQUILL_BELOW_MINIMUM = 8,
     /* The run is too long. Manual firing: the node's count is 4,294,967,295 already; place: that node. An immediate
-     * run: a node would fire more than 1,000,000 times; place: the lowest such node. */
+     * run: a node would fire more than 1,000,000 times; place: the lowest such node. A deadline run: it has more than
+     * 1,000,000 ticks; place 0. */
     ARDENQUILL_TOO_LONG = 9,
     /* The out handed in is shorter than what would be written. Place: the bytes needed. */
     ARDENQUILL_NO_ROOM = 10,
-    /* There is no such node, or the queue before it holds less than its threshold. Place: the node asked. */
+    /* There is no such node; or manual firing: the queue before it holds less than its threshold; or a deadline: the
+     * index is 0. Place: the node asked. */
     ARDENQUILL_CANNOT_FIRE = 11,
     /* The firing would put more into the queue after the node than its capacity in force. Place: that queue. */
     ARDENQUILL_QUEUE_FULL = 12,
+    /* On the way from a firing down to the source, along which its deadline is found, an index is above
+     * 4,294,967,295. Place: the node whose index it is, of several the first on the way. */
+    ARDENQUILL_INDEX_TOO_LARGE = 13,
     /* There is no factory chain of that number. Place: the number asked. */
     ARDENQUILL_NO_FACTORY_CHAIN = 14,
     /* The run state handed in is damaged. Place: the lowest queue that does not hold exactly what its producer's count
      * put in less what its consumer's count took out, or holds more than its capacity in force, or whose consumer has
      * as many ticks of work done as its execution time, or more. Tested before 9. */
     ARDENQUILL_BAD_RUN = 17
+};
+
+/* The kinds of outcome of a run, each with what its tick and its at say. None of them is a refusal. */
+enum ardenquill_kind {
+    /* The run has gone to its end. Tick 0, at 0. */
+    ARDENQUILL_CLEAN = 0,
+    /* A production at instant tick would put more into queue at than its capacity in force. The state is that before
+     * the production, and its clock is tick. */
+    ARDENQUILL_OVERFLOWED = 1,
+    /* At instant tick, after the source's step, the queue before N_at holds at least its threshold and the deadline of
+     * the node's next firing cannot be had, as an index on the way down to the source is above 4,294,967,295; N_at is
+     * the lowest such node. The state is that before the source's step, and its clock is tick. */
+    ARDENQUILL_NO_DEADLINE = 2
 };
 
 /* One queue, as its row in a chain file. */
@@ -131,14 +150,16 @@ struct ardenquill_analysis {
 /* How far a run of a chain of n queues is. Only the first n slots of held and done and the first n+1 of counts are
  * looked at. A plain value: a call is handed one and gives the next, and keeps nothing of either. */
 struct ardenquill_run {
-    /* The ticks that have passed. Manual firing leaves it alone; after an immediate run it is 0. */
+    /* The ticks that have passed. Manual firing leaves it alone; after an immediate run it is 0, after a deadline run
+     * the instant at which that ended. */
     uint32_t clock;
     /* How often N_i has fired, in slot i; slot 0 is the source's. */
     uint32_t counts[ARDENQUILL_MAX_QUEUES + 1];
     /* The tokens that queue i holds, in slot i. */
     uint32_t held[ARDENQUILL_MAX_QUEUES];
     /* The ticks of work that N_(i+1) has done on its current firing, in slot i; below its execution time. Manual
-     * firing leaves them alone; after an immediate run they are 0. */
+     * firing leaves them alone; after an immediate run they are 0, after a deadline run what each node has begun and
+     * not finished. */
     uint32_t done[ARDENQUILL_MAX_QUEUES];
 };
 
@@ -164,6 +185,24 @@ struct ardenquill_run_answer {
     uint32_t number, place;
     /* The run state. When the call was refused: the one that was handed in, every slot as it was; all zero from a call
      * that is handed none. */
+    struct ardenquill_run run;
+};
+
+/* The answer of a call that gives a deadline. */
+struct ardenquill_deadline_answer {
+    /* The refusal and its place; both 0 when the call was not refused. */
+    uint32_t number, place;
+    /* The tick that the firing is due at; 0 when the call was refused. */
+    uint64_t due;
+};
+
+/* The answer of a call that gives an outcome and the run state that it left. */
+struct ardenquill_outcome_run {
+    /* The refusal and its place; both 0 when the call was not refused, whatever the outcome. */
+    uint32_t number, place;
+    /* The outcome: its kind, its tick, and its queue or node; all 0 when the call was refused. */
+    uint32_t kind, tick, at;
+    /* The run state. When the call was refused: all zero. */
     struct ardenquill_run run;
 };
 
@@ -228,6 +267,27 @@ struct ardenquill_run_answer ardenquill_fire(struct ardenquill_chain chain, stru
  * 9, in this order; the places of 4 and 5 are offsets in the packed file. A count of exactly 1,000,000 is allowed.
  * Writes nothing. */
 struct ardenquill_run_answer ardenquill_immediate(struct ardenquill_chain chain, uint32_t k);
+
+/* Gives the deadline of a firing: node i for N_i, the source too, and index 1 for the node's first firing. The source's
+ * is (index - 1) * period. Another node's is the deadline of the node before it for index ((index - 1) * consume +
+ * capacity) / produce rounded down, plus 1, where the queue is the one between the two and capacity the one in force;
+ * and so on down to the source. Refuses with 2, 4, 5, 6, 7, 8, 11, 13, in this order; the places of 4 and 5 are offsets
+ * in the packed file. No run state is looked at: the node need not be able to fire. Writes nothing. */
+struct ardenquill_deadline_answer ardenquill_deadline(struct ardenquill_chain chain, uint32_t node, uint32_t index);
+
+/* Makes a deadline run of so many ticks from a fresh start, and gives its outcome and the run state after it. At each
+ * instant t from 0 on that is below ticks: a firing finished by then takes effect as ardenquill_fire says; then the
+ * source fires if period divides t; then one node works for a tick, if there is one whose queue before it holds at
+ * least its threshold: of these the one whose next firing has the earliest deadline, of several such the one nearest
+ * the sink. A firing is finished after as many ticks of work as the node's execution time; work already done is kept
+ * while other nodes work. At instant ticks only a firing finished by then takes effect.
+ * The outcome is clean, and the state's clock is ticks; or overflowed or no deadline at the first instant at which one
+ * of these comes about, overflowed before no deadline, and the run goes no further. Each outcome gives number 0 and
+ * place 0: see enum ardenquill_kind for the rest. A load below the cycle does not rule out that the source's queue
+ * overflows. The slots past n of the state are 0.
+ * Refuses with 2, 4, 5, 6, 7, 8, 9, in this order, 9 where ticks is above 1,000,000; then kind, tick, at and the whole
+ * state are 0. The places of 4 and 5 are offsets in the packed file. Writes nothing. */
+struct ardenquill_outcome_run ardenquill_deadline_run(struct ardenquill_chain chain, uint32_t ticks);
 
 #ifdef __cplusplus
 }

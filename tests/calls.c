@@ -14,6 +14,15 @@
  *     h, chain, run, length,     run answers               fires so many nodes one after the other, each from the state
  *         uint32_t each                                    that the answer before gave
  *     i, chain, uint32_t         run answer                makes an immediate run
+ *     q, chain, uint32_t,        deadline answer           asks for the deadline of a node's firing of an index
+ *         uint32_t
+ *     d, chain, uint32_t         outcome run               makes a deadline run
+ *     e, chain, uint32_t         outcome runs              makes deadline runs of 0 ticks to so many
+ *     t, chain, run              outcome run               makes one tick
+ *     k, chain, run, length      outcome runs              makes so many ticks one after the other, each from the state
+ *                                                          that the answer before gave
+ *     u, chain, run, length      outcome run               the same until a tick is refused or not clean; gives the
+ *                                                          last answer alone
  *     l, chain, length           byte 0, or byte 1, length answer, first bytes, chain answer, length answer,
  *                                first bytes
  *
@@ -30,6 +39,10 @@
 #include <string.h>
 
 #include "ardenquill.h"
+
+/* One tick by value, which is in an archive of its own. Refuses with 2, 4, 5, 6, 7, 8, 17, 9, in this order, and then
+ * gives the state that was handed in. */
+struct ardenquill_outcome_run tickcall(struct ardenquill_chain chain, struct ardenquill_run run);
 
 /* The bytes that are shown of large memory. */
 #define FIRST ARDENQUILL_PACKED_LENGTH(ARDENQUILL_MAX_QUEUES)
@@ -190,6 +203,84 @@ static void answer_immediate(void)
     put(&answer, sizeof answer);
 }
 
+/* Answers q. */
+static void answer_deadline(void)
+{
+    struct ardenquill_chain chain;
+    take(&chain, sizeof chain);
+    uint32_t node, index;
+    take(&node, sizeof node);
+    take(&index, sizeof index);
+    struct ardenquill_deadline_answer answer = ardenquill_deadline(chain, node, index);
+    put(&answer, sizeof answer);
+}
+
+/* Answers d. */
+static void answer_deadline_run(void)
+{
+    struct ardenquill_chain chain;
+    take(&chain, sizeof chain);
+    uint32_t ticks;
+    take(&ticks, sizeof ticks);
+    struct ardenquill_outcome_run answer = ardenquill_deadline_run(chain, ticks);
+    put(&answer, sizeof answer);
+}
+
+/* Answers e. */
+static void answer_each_length(void)
+{
+    struct ardenquill_chain chain;
+    take(&chain, sizeof chain);
+    uint32_t most;
+    take(&most, sizeof most);
+    for (uint64_t ticks = 0; ticks <= most; ticks++) {
+        struct ardenquill_outcome_run answer = ardenquill_deadline_run(chain, (uint32_t)ticks);
+        put(&answer, sizeof answer);
+    }
+}
+
+/* Answers t. */
+static void answer_tick(void)
+{
+    struct ardenquill_chain chain;
+    take(&chain, sizeof chain);
+    struct ardenquill_run run;
+    take(&run, sizeof run);
+    struct ardenquill_outcome_run answer = tickcall(chain, run);
+    put(&answer, sizeof answer);
+}
+
+/* Answers k. */
+static void answer_ticks(void)
+{
+    struct ardenquill_chain chain;
+    take(&chain, sizeof chain);
+    struct ardenquill_run run;
+    take(&run, sizeof run);
+    uint64_t length;
+    take(&length, sizeof length);
+    for (uint64_t i = 0; i < length; i++) {
+        struct ardenquill_outcome_run answer = tickcall(chain, run);
+        put(&answer, sizeof answer);
+        run = answer.run;
+    }
+}
+
+/* Answers u. */
+static void answer_ticks_while_clean(void)
+{
+    struct ardenquill_chain chain;
+    take(&chain, sizeof chain);
+    struct ardenquill_outcome_run last;
+    memset(&last, 0, sizeof last);
+    take(&last.run, sizeof last.run);
+    uint64_t length;
+    take(&length, sizeof length);
+    for (uint64_t i = 0; i < length && last.number == 0 && last.kind == ARDENQUILL_CLEAN; i++)
+        last = tickcall(chain, last.run);
+    put(&last, sizeof last);
+}
+
 /* Answers l. */
 static void answer_large(void)
 {
@@ -247,6 +338,24 @@ int main(void)
             break;
         case 'i':
             answer_immediate();
+            break;
+        case 'q':
+            answer_deadline();
+            break;
+        case 'd':
+            answer_deadline_run();
+            break;
+        case 'e':
+            answer_each_length();
+            break;
+        case 't':
+            answer_tick();
+            break;
+        case 'k':
+            answer_ticks();
+            break;
+        case 'u':
+            answer_ticks_while_clean();
             break;
         case 'l':
             answer_large();

@@ -48,6 +48,17 @@
     OFFSET(ardenquill_run_answer, number, 0)          \
     OFFSET(ardenquill_run_answer, place, 4)           \
     OFFSET(ardenquill_run_answer, run, 8)             \
+    SIZE(ardenquill_deadline_answer, 16)              \
+    OFFSET(ardenquill_deadline_answer, number, 0)     \
+    OFFSET(ardenquill_deadline_answer, place, 4)      \
+    OFFSET(ardenquill_deadline_answer, due, 8)        \
+    SIZE(ardenquill_outcome_run, 220)                 \
+    OFFSET(ardenquill_outcome_run, number, 0)         \
+    OFFSET(ardenquill_outcome_run, place, 4)          \
+    OFFSET(ardenquill_outcome_run, kind, 8)           \
+    OFFSET(ardenquill_outcome_run, tick, 12)          \
+    OFFSET(ardenquill_outcome_run, at, 16)            \
+    OFFSET(ardenquill_outcome_run, run, 20)           \
     SIZE(ardenquill_length_answer, 16)                \
     OFFSET(ardenquill_length_answer, number, 0)       \
     OFFSET(ardenquill_length_answer, place, 4)        \
@@ -143,6 +154,10 @@ static const struct ardenquill_analysis sixteen_sizes = {
 static const struct short_chain even = {2, 10, {{5, 5, 5, 0, 0}, {7, 14, 7, 0, 0}}, {1, 1}};
 static const struct short_chain thousandfold = {1, 1000, {{1000, 1, 1, 0, 0}}, {1}};
 
+/* A chain whose sink has no deadline: from its first index of 1,000,001 at N_1 follows one above 4,294,967,295 at the
+ * source. */
+static const struct short_chain far_ahead = {2, 1, {{1, 4295, 4295, 0, 0}, {1, 1, 1, 1000000, 0}}, {1, 1}};
+
 /* Feed as a packed file: the header, the queue row, the node row. */
 static const uint32_t feed_file[] = {1, 10, 20, 40, 44, 4, 7, 3, 0, 0, 2};
 
@@ -213,6 +228,24 @@ static struct ardenquill_chain sixteen(void)
         chain.queues[i].consume = 2 * (100 + i);
         chain.queues[i].capacity = i == 5 ? 0 : 3000 + 300 * i;
         chain.work[i] = 1 + i;
+    }
+    return chain;
+}
+
+/* The radar chain of document 000. */
+static struct ardenquill_chain radar(void)
+{
+    static const uint32_t rows[6][3] = {{118, 118, 118}, {256, 256, 256},     {256, 256, 256},
+                                        {256, 256, 256}, {256, 32768, 16384}, {32768, 128, 128}};
+    struct ardenquill_chain chain;
+    memset(&chain, 0, sizeof chain);
+    chain.n = 6;
+    chain.period = 1000;
+    for (int i = 0; i < 6; i++) {
+        chain.queues[i].produce = rows[i][0];
+        chain.queues[i].threshold = rows[i][1];
+        chain.queues[i].consume = rows[i][2];
+        chain.work[i] = 1;
     }
     return chain;
 }
@@ -395,6 +428,40 @@ static void check_immediate_refused(const char *what, struct ardenquill_chain ch
                                     uint32_t place)
 {
     check_run_answer(what, ardenquill_immediate(chain, k), number, place, run_of(0, 0, 0, 0, 0));
+}
+
+/* Checks the number, place and deadline of an answer. */
+static void check_deadline_answer(const char *what, struct ardenquill_deadline_answer got, uint32_t number,
+                                  uint32_t place, uint64_t due)
+{
+    check(got.number == number, "%s: number", what);
+    check(got.place == place, "%s: place", what);
+    check(got.due == due, "%s: due", what);
+}
+
+/* Checks every field of an answer that is not refused. */
+static void check_outcome(const char *what, struct ardenquill_outcome_run got, uint32_t kind, uint32_t tick,
+                          uint32_t at, struct ardenquill_run due)
+{
+    check(got.number == 0, "%s: number", what);
+    check(got.place == 0, "%s: place", what);
+    check(got.kind == kind, "%s: kind", what);
+    check(got.tick == tick, "%s: tick", what);
+    check(got.at == at, "%s: at", what);
+    check_run(what, got.run, due);
+}
+
+/* Checks that a deadline run is refused, and that the answer is zero but for number and place. */
+static void check_deadline_run_refused(const char *what, struct ardenquill_chain chain, uint32_t ticks, uint32_t number,
+                                       uint32_t place)
+{
+    struct ardenquill_outcome_run got = ardenquill_deadline_run(chain, ticks);
+    check(got.number == number, "%s: number", what);
+    check(got.place == place, "%s: place", what);
+    check(got.kind == 0, "%s: kind", what);
+    check(got.tick == 0, "%s: tick", what);
+    check(got.at == 0, "%s: at", what);
+    check_run(what, got.run, run_of(0, 0, 0, 0, 0));
 }
 
 /* Checks a report that has less room, exact room and ample room, and that the file stays as it is. */
@@ -675,8 +742,8 @@ static void check_edges(const char *what, struct ardenquill_chain chain)
     }
 }
 
-/* Checks that a chain is refused by every call that fires, whatever the run state: a state that is handed in comes back
- * as it was, though it is damaged too. */
+/* Checks that a chain is refused by every call that fires or asks when to fire, whatever the run state: a state that is
+ * handed in comes back as it was, though it is damaged too. */
 static void check_runs_refused(const char *what, struct ardenquill_chain chain, uint32_t number, uint32_t place)
 {
     struct ardenquill_run run;
@@ -686,9 +753,13 @@ static void check_runs_refused(const char *what, struct ardenquill_chain chain, 
     check_fire_refused(what, chain, run, UINT32_MAX, number, place);
     check_immediate_refused(what, chain, 1, number, place);
     check_immediate_refused(what, chain, UINT32_MAX, number, place);
+    check_deadline_answer(what, ardenquill_deadline(chain, 0, 1), number, place, 0);
+    check_deadline_answer(what, ardenquill_deadline(chain, UINT32_MAX, 0), number, place, 0);
+    check_deadline_run_refused(what, chain, 1, number, place);
+    check_deadline_run_refused(what, chain, UINT32_MAX, number, place);
 }
 
-/* Checks each number that all three refuse a chain with. */
+/* Checks each number that all of them refuse a chain with. */
 static void check_run_refusals(void)
 {
     struct ardenquill_chain chain = chain_of(&feed);
@@ -744,6 +815,102 @@ static void check_immediate(void)
     chain = chain_of(&roomy);
     chain.queues[1].capacity = 6;
     check_run_answer("capacity at the minimum", ardenquill_immediate(chain, 3), 0, 0, run_of(3, 2, 2, 6, 2));
+}
+
+/* Checks deadlines: those of document 000's example, the source's, the largest, and what is refused after the numbers
+ * of the analysis. */
+static void check_deadlines(void)
+{
+    static const struct {
+        uint32_t node;
+        uint64_t due[2];
+    } example[] = {{1, {1000, 2000}}, {5, {132000, 196000}}, {6, {196000, 196000}}};
+    char name[64];
+    for (size_t i = 0; i < sizeof example / sizeof example[0]; i++)
+        for (uint32_t index = 1; index <= 2; index++) {
+            snprintf(name, sizeof name, "radar, node %d, index %d", (int)example[i].node, (int)index);
+            check_deadline_answer(name, ardenquill_deadline(radar(), example[i].node, index), 0, 0,
+                                  example[i].due[index - 1]);
+        }
+
+    struct ardenquill_chain chain = chain_of(&far_ahead);
+    check_deadline_answer("source's first", ardenquill_deadline(chain, 0, 1), 0, 0, 0);
+    check_deadline_answer("source's last", ardenquill_deadline(chain, 0, UINT32_MAX), 0, 0, 4294967294u);
+    check_deadline_answer("no index", ardenquill_deadline(chain, 2, 0), ARDENQUILL_CANNOT_FIRE, 2, 0);
+    check_deadline_answer("no index of the source", ardenquill_deadline(chain, 0, 0), ARDENQUILL_CANNOT_FIRE, 0, 0);
+    check_deadline_answer("no such node", ardenquill_deadline(chain, 3, 1), ARDENQUILL_CANNOT_FIRE, 3, 0);
+    check_deadline_answer("index past the limit at the source", ardenquill_deadline(chain, 2, 1),
+                          ARDENQUILL_INDEX_TOO_LARGE, 0, 0);
+    check_deadline_answer("index past the limit before", ardenquill_deadline(chain, 2, UINT32_MAX),
+                          ARDENQUILL_INDEX_TOO_LARGE, 1, 0);
+    check_deadline_answer("capacity below minimum", ardenquill_deadline(chain_of(&roomy), 1, 1),
+                          ARDENQUILL_BELOW_MINIMUM, 1, 0);
+    check_deadline_answer("capacity below minimum, no index", ardenquill_deadline(chain_of(&roomy), 9, 0),
+                          ARDENQUILL_BELOW_MINIMUM, 1, 0);
+    chain = chain_of(&even);
+    chain.period = 1000000;
+    check_deadline_answer("latest", ardenquill_deadline(chain, 1, 4294967294u), 0, 0, 4294967294000000u);
+    check_deadline_answer("index past the limit by one", ardenquill_deadline(chain, 1, UINT32_MAX),
+                          ARDENQUILL_INDEX_TOO_LARGE, 0, 0);
+}
+
+/* A state of Feed or of Feed with another execution time: clock, counts, contents and work done. */
+static struct ardenquill_run feed_run(uint32_t clock, uint32_t source, uint32_t sink, uint32_t held, uint32_t done)
+{
+    struct ardenquill_run run = run_of(source, sink, 0, held, 0);
+    run.clock = clock;
+    run.done[0] = done;
+    return run;
+}
+
+/* Checks the paper's deadline runs: Feed, Feed with an execution time of 7, which overflows at tick 40 though its load
+ * is 28 of 30, the same with a capacity of 12, and Permeate with too small a capacity. */
+static void check_paper_runs(void)
+{
+    struct ardenquill_chain chain = chain_of(&feed);
+    check_outcome("Feed, 0 ticks", ardenquill_deadline_run(chain, 0), ARDENQUILL_CLEAN, 0, 0, feed_run(0, 0, 0, 0, 0));
+    check_outcome("Feed, 30 ticks", ardenquill_deadline_run(chain, 30), ARDENQUILL_CLEAN, 0, 0,
+                  feed_run(30, 3, 2, 6, 0));
+    check_outcome("Feed, 34 ticks", ardenquill_deadline_run(chain, 34), ARDENQUILL_CLEAN, 0, 0,
+                  feed_run(34, 4, 4, 4, 0));
+
+    chain.work[0] = 7;
+    struct ardenquill_analysis_answer load = ardenquill_analyse(chain);
+    check(load.analysis.busy == 28 && load.analysis.cycle == 30, "Feed with 7: load 28 of 30");
+    check_outcome("Feed with 7, 40 ticks", ardenquill_deadline_run(chain, 40), ARDENQUILL_CLEAN, 0, 0,
+                  feed_run(40, 4, 3, 7, 3));
+    check_outcome("Feed with 7, 41 ticks", ardenquill_deadline_run(chain, 41), ARDENQUILL_OVERFLOWED, 40, 0,
+                  feed_run(40, 4, 3, 7, 3));
+    check_outcome("Feed with 7, longest", ardenquill_deadline_run(chain, 1000000), ARDENQUILL_OVERFLOWED, 40, 0,
+                  feed_run(40, 4, 3, 7, 3));
+    chain.queues[0].capacity = 12;
+    check_outcome("Feed with 7 and 12, 90 ticks", ardenquill_deadline_run(chain, 90), ARDENQUILL_CLEAN, 0, 0,
+                  feed_run(90, 9, 10, 6, 0));
+
+    check_deadline_run_refused("Permeate with 5", chain_of(&roomy), 34, ARDENQUILL_BELOW_MINIMUM, 1);
+    check_deadline_run_refused("Permeate with 5, too long", chain_of(&roomy), UINT32_MAX, ARDENQUILL_BELOW_MINIMUM, 1);
+}
+
+/* Checks deadline runs with garbage past n, of the greatest length, too long, and without a deadline. */
+static void check_deadline_runs(void)
+{
+    struct ardenquill_chain chain = chain_of(&feed);
+    memset(&chain.queues[1], UNTOUCHED, sizeof chain.queues[1]);
+    memset(&chain.work[1], UNTOUCHED, sizeof chain.work[1]);
+    check_outcome("Feed with garbage, 34 ticks", ardenquill_deadline_run(chain, 34), ARDENQUILL_CLEAN, 0, 0,
+                  feed_run(34, 4, 4, 4, 0));
+    check_outcome("Feed, longest", ardenquill_deadline_run(chain, 1000000), ARDENQUILL_CLEAN, 0, 0,
+                  feed_run(1000000, 100000, 133332, 4, 0));
+    check_deadline_run_refused("Feed, too long", chain, 1000001, ARDENQUILL_TOO_LONG, 0);
+    check_deadline_run_refused("Feed, far too long", chain, UINT32_MAX, ARDENQUILL_TOO_LONG, 0);
+
+    chain = chain_of(&far_ahead);
+    struct ardenquill_run due = run_of(4295, 1, 0, 0, 1);
+    due.clock = 4295;
+    check_outcome("to no deadline", ardenquill_deadline_run(chain, 4295), ARDENQUILL_CLEAN, 0, 0, due);
+    check_outcome("no deadline", ardenquill_deadline_run(chain, 4296), ARDENQUILL_NO_DEADLINE, 4295, 2, due);
+    check_outcome("no deadline, longest", ardenquill_deadline_run(chain, 1000000), ARDENQUILL_NO_DEADLINE, 4295, 2,
+                  due);
 }
 
 /* Fires a node as a user does: the state becomes the one that the call gives. */
@@ -887,6 +1054,9 @@ int main(void)
     check_run_refusals();
     check_feed_immediate();
     check_immediate();
+    check_deadlines();
+    check_paper_runs();
+    check_deadline_runs();
     check_walks();
     check_untouched_slots();
     check_damaged();

@@ -1,6 +1,9 @@
-//! The library's calls that are measured: as the header declares them, and as Rust functions.
+//! The library's calls that are measured: as the header declares them, the tick as its own archive
+//! has it, and as Rust functions.
 
-use yardstick::{AnalysisAnswer, Chain, ChainAnswer, LengthAnswer, Run, RunAnswer};
+use yardstick::{
+    AnalysisAnswer, Chain, ChainAnswer, DeadlineAnswer, LengthAnswer, OutcomeRun, Run, RunAnswer,
+};
 
 extern "C" {
     pub fn ardenquill_read(file: *const u8, file_length: usize) -> ChainAnswer;
@@ -14,6 +17,9 @@ extern "C" {
     ) -> LengthAnswer;
     pub fn ardenquill_fire(chain: Chain, run: Run, node: u32) -> RunAnswer;
     pub fn ardenquill_immediate(chain: Chain, k: u32) -> RunAnswer;
+    pub fn ardenquill_deadline(chain: Chain, node: u32, index: u32) -> DeadlineAnswer;
+    pub fn ardenquill_deadline_run(chain: Chain, ticks: u32) -> OutcomeRun;
+    pub fn tickcall(chain: Chain, run: Run) -> OutcomeRun;
 }
 
 /// The chain of a file.
@@ -51,4 +57,22 @@ pub fn fire(chain: &Chain, run: Run, node: u32) -> RunAnswer {
 pub fn immediate(chain: &Chain, k: u32) -> RunAnswer {
     // SAFETY: the call takes any chain and number.
     unsafe { ardenquill_immediate(*chain, k) }
+}
+
+/// The deadline of a node's firing of an index.
+pub fn deadline(chain: &Chain, node: u32, index: u32) -> DeadlineAnswer {
+    // SAFETY: the call takes any chain, node and index.
+    unsafe { ardenquill_deadline(*chain, node, index) }
+}
+
+/// The outcome of one tick.
+pub fn tick(chain: &Chain, run: Run) -> OutcomeRun {
+    // SAFETY: the call takes any chain and state.
+    unsafe { tickcall(*chain, run) }
+}
+
+/// The outcome of a deadline run of so many ticks.
+pub fn deadline_run(chain: &Chain, ticks: u32) -> OutcomeRun {
+    // SAFETY: the call takes any chain and number.
+    unsafe { ardenquill_deadline_run(*chain, ticks) }
 }

@@ -1,5 +1,6 @@
-//! Measures reading, writing, analysing, reporting, firing and running: nanoseconds per call of the
-//! library and of the yardstick, and their ratio, on the same inputs in one run.
+//! Measures reading, writing, analysing, reporting, firing, ticking, running and asking for deadlines:
+//! nanoseconds per call of the library and of the yardstick, and their ratio, on the same inputs in
+//! one run.
 
 mod library;
 
@@ -7,19 +8,21 @@ use compare::chains::{valid, within};
 use compare::loaded::accepted;
 use compare::packed::packed_file;
 use compare::random::Random;
+use compare::small::make_room;
 use compare::states::{nearly_planned, Plan};
+use compare::timed::brisk;
 use compare::MAX_REPORT_LENGTH;
 use library::{
-    ardenquill_analyse, ardenquill_fire, ardenquill_immediate, ardenquill_read, ardenquill_report,
-    ardenquill_write,
+    ardenquill_analyse, ardenquill_deadline, ardenquill_deadline_run, ardenquill_fire,
+    ardenquill_immediate, ardenquill_read, ardenquill_report, ardenquill_write, tickcall,
 };
 use std::fmt::Debug;
 use std::hint::black_box;
 use std::slice;
 use std::time::Instant;
 use yardstick::{
-    packed_length, AnalysisAnswer, Chain, ChainAnswer, LengthAnswer, Queue, Run, RunAnswer,
-    MAX_FIRINGS, MAX_QUEUES, TICKS,
+    packed_length, AnalysisAnswer, Chain, ChainAnswer, DeadlineAnswer, LengthAnswer, OutcomeRun,
+    Queue, Run, RunAnswer, CLEAN, MAX_FIRINGS, MAX_QUEUES, MAX_TICKS, TICKS,
 };
 
 /// The different inputs of one line, called one after the other in a ring.
@@ -67,6 +70,15 @@ type Fire = unsafe extern "C" fn(Chain, Run, u32) -> RunAnswer;
 /// The call that makes an immediate run.
 type Immediate = unsafe extern "C" fn(Chain, u32) -> RunAnswer;
 
+/// The call that asks for a deadline.
+type Deadline = unsafe extern "C" fn(Chain, u32, u32) -> DeadlineAnswer;
+
+/// The call that makes a tick.
+type Tick = unsafe extern "C" fn(Chain, Run) -> OutcomeRun;
+
+/// The call that makes a deadline run.
+type DeadlineRun = unsafe extern "C" fn(Chain, u32) -> OutcomeRun;
+
 /// The yardstick's reader behind the same boundary as the library's. The bytes must be readable.
 #[inline(never)]
 unsafe extern "C" fn yardstick_read(file: *const u8, file_length: usize) -> ChainAnswer {
@@ -112,6 +124,24 @@ unsafe extern "C" fn yardstick_fire(chain: Chain, run: Run, node: u32) -> RunAns
 #[inline(never)]
 unsafe extern "C" fn yardstick_immediate(chain: Chain, k: u32) -> RunAnswer {
     yardstick::immediate(&chain, k)
+}
+
+/// The yardstick's deadline question behind the same boundary as the library's.
+#[inline(never)]
+unsafe extern "C" fn yardstick_deadline(chain: Chain, node: u32, index: u32) -> DeadlineAnswer {
+    yardstick::deadline(&chain, node, index)
+}
+
+/// The yardstick's tick behind the same boundary as the library's.
+#[inline(never)]
+unsafe extern "C" fn yardstick_tick(chain: Chain, run: Run) -> OutcomeRun {
+    yardstick::tick(&chain, run)
+}
+
+/// The yardstick's deadline run behind the same boundary as the library's.
+#[inline(never)]
+unsafe extern "C" fn yardstick_deadline_run(chain: Chain, ticks: u32) -> OutcomeRun {
+    yardstick::deadline_run(&chain, ticks)
 }
 
 /// Random valid chains of n queues.
@@ -171,32 +201,75 @@ fn firings(random: &mut Random, n: usize) -> Vec<(Chain, Run, u32)> {
     firings
 }
 
-/// Random accepted chains of n queues all of whose nodes fire about as often as the source: of four
-/// queues two leave the rate as it is, the third slows it to three quarters and the fourth brings
-/// it back, unless it is the last.
-fn even_chains(random: &mut Random, n: usize) -> Vec<Chain> {
-    let chain = |_| {
-        let mut chain = Chain {
-            n: n as u32,
-            period: *TICKS.end(),
-            ..Chain::default()
-        };
-        for (i, queue) in chain.queues[..n].iter_mut().enumerate() {
-            let unit = within(random, 1..=1_000);
-            let [produce, consume] = [[1, 1], [1, 1], [3, 4], [4, 3]][i % 4];
-            let consume = consume * unit;
-            *queue = Queue {
-                produce: produce * unit,
-                threshold: consume * within(random, 1..=3) + within(random, 0..=unit),
-                consume,
-                capacity: 0,
-                reserved: 0,
-            };
+/// Random chains of n queues with room, a node of each, and an index of its firing whose deadline can
+/// be had.
+fn questions(random: &mut Random, n: usize) -> Vec<(Chain, u32, u32)> {
+    let mut questions = Vec::with_capacity(INPUTS);
+    while questions.len() < INPUTS {
+        let mut chain = accepted(random, n);
+        make_room(random, &mut chain);
+        let index = within(random, 1..=1_000);
+        if yardstick::deadline(&chain, n as u32, index).number == 0 {
+            questions.push((chain, n as u32, index));
         }
-        chain.work[..n].fill(1);
-        chain
+    }
+    questions
+}
+
+/// Random chains of n queues and states in the middle of a run, from which the next tick is clean.
+fn ticks(random: &mut Random, n: usize) -> Vec<(Chain, Run)> {
+    let mut ticks = Vec::with_capacity(INPUTS);
+    while ticks.len() < INPUTS {
+        let chain = brisk(random, n);
+        let run = yardstick::deadline_run(&chain, within(random, 100..=10_000)).run;
+        if yardstick::tick(&chain, run).kind == CLEAN {
+            ticks.push((chain, run));
+        }
+    }
+    ticks
+}
+
+/// A random accepted chain of n queues all of whose nodes fire about as often as the source and for
+/// one tick: of four queues two leave the rate as it is, the third slows it to three quarters and the
+/// fourth brings it back, unless it is the last. The period must leave time for all of them.
+fn even_chain(random: &mut Random, n: usize, period: u32) -> Chain {
+    let mut chain = Chain {
+        n: n as u32,
+        period,
+        ..Chain::default()
     };
+    for (i, queue) in chain.queues[..n].iter_mut().enumerate() {
+        let unit = within(random, 1..=1_000);
+        let [produce, consume] = [[1, 1], [1, 1], [3, 4], [4, 3]][i % 4];
+        let consume = consume * unit;
+        *queue = Queue {
+            produce: produce * unit,
+            threshold: consume * within(random, 1..=3) + within(random, 0..=unit),
+            consume,
+            capacity: 0,
+            reserved: 0,
+        };
+    }
+    chain.work[..n].fill(1);
+    chain
+}
+
+/// Such chains for immediate runs, in which time plays no part.
+fn even_chains(random: &mut Random, n: usize) -> Vec<Chain> {
+    let chain = |_| even_chain(random, n, *TICKS.end());
     (0..LONG.inputs).map(chain).collect()
+}
+
+/// Such chains of a period whose longest deadline run is clean.
+fn clean_chains(random: &mut Random, n: usize, period: u32) -> Vec<Chain> {
+    let mut chains = Vec::with_capacity(LONG.inputs);
+    while chains.len() < LONG.inputs {
+        let chain = even_chain(random, n, period);
+        if yardstick::deadline_run(&chain, MAX_TICKS).kind == CLEAN {
+            chains.push(chain);
+        }
+    }
+    chains
 }
 
 /// The answer that library and yardstick both give.
@@ -326,6 +399,67 @@ fn immediate_line(name: &str, chains: &[Chain], k: u32) {
     });
 }
 
+/// Prints the line of some deadline questions, none of which may be refused.
+fn deadline_line(name: &str, questions: &[(Chain, u32, u32)]) {
+    for &(chain, node, index) in questions {
+        let answer = same(
+            library::deadline(&chain, node, index),
+            yardstick::deadline(&chain, node, index),
+        );
+        due(answer.number, 0);
+    }
+    let calls = [ardenquill_deadline as Deadline, yardstick_deadline];
+    line("deadline", name, SHORT, |side| {
+        for question in questions {
+            let (chain, node, index) = black_box(question);
+            // SAFETY: the call takes any chain, node and index.
+            let answer = unsafe { calls[side](*chain, *node, *index) };
+            black_box(&answer);
+        }
+    });
+}
+
+/// Prints the line of some ticks, each of which must be clean.
+fn tick_line(name: &str, ticks: &[(Chain, Run)]) {
+    for &(chain, run) in ticks {
+        let answer = same(library::tick(&chain, run), yardstick::tick(&chain, run));
+        due(answer.number, 0);
+        due(answer.kind, CLEAN);
+    }
+    let calls = [tickcall as Tick, yardstick_tick];
+    line("tick", name, SHORT, |side| {
+        for tick in ticks {
+            let (chain, run) = black_box(tick);
+            // SAFETY: the call takes any chain and state.
+            let answer = unsafe { calls[side](*chain, *run) };
+            black_box(&answer);
+        }
+    });
+}
+
+/// Prints the line of deadline runs of so many ticks, each of which must be clean.
+fn deadline_run_line(name: &str, chains: &[Chain], ticks: u32) {
+    for chain in chains {
+        let answer = same(
+            library::deadline_run(chain, ticks),
+            yardstick::deadline_run(chain, ticks),
+        );
+        due(answer.number, 0);
+        due(answer.kind, CLEAN);
+    }
+    let calls = [
+        ardenquill_deadline_run as DeadlineRun,
+        yardstick_deadline_run,
+    ];
+    line("deadline run", name, LONG, |side| {
+        for chain in chains {
+            // SAFETY: the call takes any chain and number.
+            let answer = unsafe { calls[side](*black_box(chain), black_box(ticks)) };
+            black_box(&answer);
+        }
+    });
+}
+
 /// Prints one line, given the effort and what goes once through the ring on a side: 0 library, 1
 /// yardstick. The sides take turns, and so does who begins.
 fn line(call: &str, name: &str, effort: Effort, mut ring: impl FnMut(usize)) {
@@ -342,7 +476,7 @@ fn line(call: &str, name: &str, effort: Effort, mut ring: impl FnMut(usize)) {
     }
     let [library, yardstick] = best;
     let ratio = library / yardstick;
-    println!("{call:<10}{name:<28}{library:>13.1}{yardstick:>13.1}{ratio:>8.2}");
+    println!("{call:<14}{name:<28}{library:>13.1}{yardstick:>13.1}{ratio:>8.2}");
 }
 
 /// Prints what is measured, and the heads of the columns.
@@ -351,7 +485,7 @@ fn heading() {
         "Nanoseconds per call of the library and of the yardstick, the same rules in plain Rust."
     );
     println!(
-        "Best of {} rounds, the two taking turns on the same {} different inputs; for immediate {} and {}.",
+        "Best of {} rounds, the two taking turns on the same {} different inputs; for whole runs {} and {}.",
         SHORT.rounds, SHORT.inputs, LONG.rounds, LONG.inputs
     );
     println!(
@@ -361,7 +495,7 @@ fn heading() {
         "No lent buffer is cleared in the timed part, on either side; each call makes its whole answer."
     );
     println!(
-        "{:<10}{:<28}{:>13}{:>13}{:>8}",
+        "{:<14}{:<28}{:>13}{:>13}{:>8}",
         "call", "input", "library", "yardstick", "ratio"
     );
 }
@@ -399,5 +533,21 @@ fn main() {
     for n in [1, MAX_QUEUES] {
         let chains = even_chains(&mut random, n);
         immediate_line(&format!("n = {n}, k = {MAX_FIRINGS}"), &chains, MAX_FIRINGS);
+    }
+    for n in [1, MAX_QUEUES] {
+        deadline_line(&format!("n = {n}, the sink"), &questions(&mut random, n));
+    }
+    for n in [1, 2, MAX_QUEUES] {
+        tick_line(&format!("n = {n}"), &ticks(&mut random, n));
+    }
+    for n in [2, MAX_QUEUES] {
+        for (name, ticks) in [("dense", 1), ("sparse", 100)] {
+            let chains = clean_chains(&mut random, n, ticks * n as u32);
+            deadline_run_line(
+                &format!("n = {n}, 1000000 ticks, {name}"),
+                &chains,
+                MAX_TICKS,
+            );
+        }
     }
 }

@@ -5,3 +5,6 @@ pub mod Reports
 pub mod Runs
 pub mod Histories
 pub mod Immediate
+pub mod Deadlines
+pub mod Ticks
+pub mod Flat

@@ -8,6 +8,9 @@ ghost use Rattle.ardenquill.specs.Analyses.{analyseAnswer};
 ghost use Rattle.ardenquill.specs.Reports.{reportText, reportRefusal};
 ghost use Rattle.ardenquill.specs.Runs.{freshAnswer, fireAnswer};
 ghost use Rattle.ardenquill.specs.Immediate.{immediateAnswer};
+ghost use Rattle.ardenquill.specs.Deadlines.{deadlineAnswer};
+ghost use Rattle.ardenquill.specs.Ticks.{kindOf, tickOf, atOf, deadlineRunAnswer};
+ghost use Rattle.ardenquill.specs.Flat.{flat};
 pub use chain::Chain;
 pub use chain::ChainAnswer;
 pub use chain::Queue;
@@ -15,7 +18,11 @@ pub use chain::factory;
 pub use chainfile::LengthAnswer;
 pub use chainfile::read;
 pub use chainfile::write;
+pub use deadline::DeadlineAnswer;
+pub use deadline::deadline;
 pub use immediate::immediate;
+pub use instants::Outcome;
+pub use instants::TickAnswer;
 pub use report::headed;
 pub use report::refusal_line;
 pub use report::report;
@@ -28,6 +35,19 @@ pub use sizing::checked_for_run;
 pub use state::Run;
 pub use state::RunAnswer;
 pub use state::fresh;
+pub use ticks::deadline_run;
+pub use ticks::tick;
+
+// An answer of a tick or a deadline run for C: the refusal, and how it ended as a code with the tick and the queue or node.
+#[repr(C)]
+pub struct OutcomeRun {
+    pub number: u32,
+    pub place: u32,
+    pub kind: u32,
+    pub tick: u32,
+    pub at: u32,
+    pub run: Run,
+}
 
 // The chain of a file, or the first of 1 to 5 that refuses it.
 #[no_mangle]
@@ -93,4 +113,70 @@ pub extern "C" fn ardenquill_immediate(chain: Chain, k: u32) -> RunAnswer
     ensures { λ r. ⌜ r ≡ immediateAnswer chain k ⌝ }
 {
     immediate(chain, k)
+}
+
+// The deadline of a node's firing of this index, or the first of 2, 4, 5, 6, 7, 8, 11 and 13 that refuses the question.
+#[no_mangle]
+pub extern "C" fn ardenquill_deadline(chain: Chain, node: u32, index: u32) -> DeadlineAnswer
+    ensures { λ r. ⌜ r ≡ deadlineAnswer chain node index ⌝ }
+{
+    deadline(chain, node, index)
+}
+
+// How a deadline run of so many ticks from a fresh start ended and the state that it left, or the first of 2, 4, 5, 6, 7, 8
+// and 9 that refuses it.
+#[no_mangle]
+pub extern "C" fn ardenquill_deadline_run(chain: Chain, ticks: u32) -> OutcomeRun
+    ensures { λ r. ⌜ r ≡ flat (deadlineRunAnswer chain ticks) ⌝ }
+{
+    flattened(deadline_run(chain, ticks))
+}
+
+// An answer as C has it.
+pub fn flattened(answer: TickAnswer) -> OutcomeRun
+    ensures { λ r. ⌜ r ≡ flat answer ⌝ }
+{
+    let outcome = answer.outcome;
+    let run = answer.run;
+    OutcomeRun {
+        number: answer.number,
+        place: answer.place,
+        kind: kind_of(outcome),
+        tick: tick_of(outcome),
+        at: at_of(outcome),
+        run: run,
+    }
+}
+
+// The code of an outcome.
+fn kind_of(outcome: Outcome) -> u32
+    ensures { λ r. ⌜ r ≡ kindOf outcome ⌝ }
+{
+    match outcome {
+        Outcome::Clean => 0,
+        Outcome::Overflowed { .. } => 1,
+        Outcome::NoDeadline { .. } => 2,
+    }
+}
+
+// The tick of an outcome, 0 where it has none.
+fn tick_of(outcome: Outcome) -> u32
+    ensures { λ r. ⌜ r ≡ tickOf outcome ⌝ }
+{
+    match outcome {
+        Outcome::Clean => 0,
+        Outcome::Overflowed { tick, .. } => tick,
+        Outcome::NoDeadline { tick, .. } => tick,
+    }
+}
+
+// The queue or the node of an outcome, 0 where it has none.
+fn at_of(outcome: Outcome) -> u32
+    ensures { λ r. ⌜ r ≡ atOf outcome ⌝ }
+{
+    match outcome {
+        Outcome::Clean => 0,
+        Outcome::Overflowed { queue, .. } => queue,
+        Outcome::NoDeadline { node, .. } => node,
+    }
 }

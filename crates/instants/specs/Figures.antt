@@ -20,9 +20,9 @@ abbrev row : Ticked → List ℕ
 row r = numberOf (r .outcome) ∷ countAt (r .run) 0 ∷ countAt (r .run) 1 ∷ heldAt (r .run) 0 ∷ valuesOf (r .outcome)
 
 pub feed-34 : row (instants feed 34 (freshRun feed)) ≡ 0 ∷ 4 ∷ 4 ∷ 4 ∷ []
-unfolding instants factoryAnswer freshRun numberOf valuesOf
+unfolding instants factoryAnswer freshRun
 feed-34 = refl
 
 pub seven-41 : row (instants seven 41 (freshRun seven)) ≡ 0 ∷ 4 ∷ 3 ∷ 7 ∷ 40 ∷ 0 ∷ []
-unfolding instants factoryAnswer freshRun numberOf valuesOf
+unfolding instants factoryAnswer freshRun
 seven-41 = refl

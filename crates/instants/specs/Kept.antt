@@ -76,11 +76,9 @@ room-of c s i e = room-silent c s i .0 (ap (λ (b : Bool). test 12 i b .number) 
 
 -- no outcome that ends a run is clean
 pub unclean-overflow : {t q : ℕ} → Overflowed t q ≡ Clean → ⊥
-unfolding kindOf
 unclean-overflow e = let z : _≡_ {A = ℕ} 1 0 = ap kindOf e in absurd (omega arith)
 
 pub unclean-undated : {t i : ℕ} → NoDeadline t i ≡ Clean → ⊥
-unfolding kindOf
 unclean-undated e = let z : _≡_ {A = ℕ} 2 0 = ap kindOf e in absurd (omega arith)
 
 -- what the source's step leaves where it is clean

@@ -1,6 +1,6 @@
 -- One tick and a deadline run (01, Firing).
 --   numberOf o, valuesOf o     the number and the values that 01 gives an outcome
---   kindOf o                   its code for C
+--   kindOf, tickOf, atOf o     the same for C; kind-number, kind-values: which says the same
 --   clean s, overflowed s t q, undated s t i
 --                              a state that is left clean, by a production at t that does not fit queue q, or by 13 at t of node i
 --   onward r f                 what f makes of a state that was left clean; any other outcome stands
@@ -22,6 +22,7 @@
 --   tick c s                   one tick
 --   ticks c T s                so many of them, as far as they are clean
 --   instants c T s             01's instants, T of them before the last
+use mathlib.Core.Path.{_≡_, refl}
 use mathlib.Core.Bool.{Bool, true, false, cond, _&&_, not}
 use mathlib.Core.List.{List, [], _∷_}
 use Prim.Native.Nat.{ℕ, zero, suc, _+_, _%_}
@@ -42,22 +43,43 @@ use Rattle.instants.specs.declared.Outcome.the-variants.{Clean, Overflow
 use Rattle.instants.specs.declared.Ticked.{Ticked}
 
 -- the number that 01 gives an outcome: 13 has one, "it ends clean" and "overflowed" have none
-unfoldable pub numberOf : Outcome → ℕ
+abbrev pub numberOf : Outcome → ℕ
 numberOf Clean = 0
 numberOf (Overflowed t q) = 0
 numberOf (NoDeadline t i) = 13
 
 -- and its values: "overflowed at (tick, queue)", and the tick and the node of 13
-unfoldable pub valuesOf : Outcome → List ℕ
+abbrev pub valuesOf : Outcome → List ℕ
 valuesOf Clean = []
 valuesOf (Overflowed t q) = t ∷ q ∷ []
 valuesOf (NoDeadline t i) = t ∷ i ∷ []
 
--- the code of an outcome for C, and its two values there: 0 where it has none
-unfoldable pub kindOf : Outcome → ℕ
+-- the same for C, which has no outcomes of several kinds: a code, the tick, and the queue or the node; 0 where there is none
+abbrev pub kindOf : Outcome → ℕ
 kindOf Clean = 0
 kindOf (Overflowed t q) = 1
 kindOf (NoDeadline t i) = 2
+
+abbrev pub tickOf : Outcome → ℕ
+tickOf Clean = 0
+tickOf (Overflowed t q) = t
+tickOf (NoDeadline t i) = t
+
+abbrev pub atOf : Outcome → ℕ
+atOf Clean = 0
+atOf (Overflowed t q) = q
+atOf (NoDeadline t i) = i
+
+-- which are 01's number and values
+pub kind-number : (o : Outcome) → numberOf o ≡ cond (eqb (kindOf o) 2) 13 0
+kind-number Clean = refl
+kind-number (Overflowed t q) = refl
+kind-number (NoDeadline t i) = refl
+
+pub kind-values : (o : Outcome) → valuesOf o ≡ cond (eqb (kindOf o) 0) [] (tickOf o ∷ atOf o ∷ [])
+kind-values Clean = refl
+kind-values (Overflowed t q) = refl
+kind-values (NoDeadline t i) = refl
 
 -- the three ways in which a state is left
 abbrev pub clean : Run → Ticked

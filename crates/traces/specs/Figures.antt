@@ -29,7 +29,7 @@ short = made 5 (queue 4 7 3 12 ∷ queue 3 4 2 5 ∷ []) (1 ∷ 1 ∷ [])
 
 -- at 11 the finish overflows, and of that tick only the source's firing is left
 pub short-12 : (trace short 12 (freshRun short) ≡ (0, 0) ∷ (5, 0) ∷ (6, 1) ∷ (10, 0) ∷ []) × (valuesOf (ticks short 12 (freshRun short) .outcome) ≡ 11 ∷ 1 ∷ [])
-unfolding trace ticks freshRun valuesOf
+unfolding trace ticks freshRun
 short-12 = (refl, refl)
 
 -- N_2's first firing asks for N_1's 1,000,001st, and that for a firing of the source that has no index
@@ -42,5 +42,5 @@ farState = record { clock = 65535; counts = 65535 ∷ 1 ∷ 0 ∷ []; held = 0 �
 
 -- 13 at that tick, of N_2, and no firing is left of it
 pub far-tick : (tickTrace far farState ≡ []) × (valuesOf (tick far farState .outcome) ≡ 65535 ∷ 2 ∷ [])
-unfolding tickTrace tick valuesOf
+unfolding tickTrace tick
 far-tick = (refl, refl)

@@ -2,19 +2,26 @@
 //! the other call.
 
 use crate::analysed::Request;
+use crate::deadline_runs;
+use crate::deadline_sights::{DeadlineRuns, Questions};
 use crate::firings::{Firing, History};
 use crate::lent::Lent;
 use crate::library::{Large, Library, Lost};
 use crate::plain::Plain;
+use crate::questions::Question;
 use crate::records::Record;
 use crate::run_sights::{Firings, Runs};
 use crate::runs;
 use crate::sights::{Analyses, Reports};
 use crate::tally::Tally;
+use crate::tick_sights::Ticks;
+use crate::ticks::{Tick, Walk};
 use compare::packed::{packed_file, packed_form};
 use compare::random::Random;
 use std::fmt;
-use yardstick::{Chain, ChainAnswer, LengthAnswer, Queue, RunAnswer};
+use yardstick::{
+    Chain, ChainAnswer, LengthAnswer, OutcomeRun, Queue, Run, RunAnswer, CLEAN, OVERFLOWED,
+};
 
 /// The most bytes that are shown of an input or of lent memory.
 const SHOWN: usize = 4_100;
@@ -201,6 +208,104 @@ pub fn immediate(
     let due = yardstick::immediate(&request.chain, request.k);
     seen.count(request, &due);
     same_answer("the answer", &answer, &due)
+}
+
+/// Compares a deadline question.
+pub fn deadline(
+    library: &mut Library,
+    seen: &mut Questions,
+    question: &Question,
+) -> Result<(), Failure> {
+    let Question { chain, node, index } = question;
+    let answer = library.deadline(chain, *node, *index)?;
+    let due = yardstick::deadline(chain, *node, *index);
+    seen.count(question, &due);
+    same_answer("the answer", &answer, &due)
+}
+
+/// Compares a deadline run.
+pub fn deadline_run(
+    library: &mut Library,
+    seen: &mut DeadlineRuns,
+    request: &deadline_runs::Request,
+) -> Result<(), Failure> {
+    let answer = library.deadline_run(&request.chain, request.ticks)?;
+    let due = yardstick::deadline_run(&request.chain, request.ticks);
+    seen.count(request, &due);
+    no_late_overflow(&answer)?;
+    same_answer("the answer", &answer, &due)
+}
+
+/// Compares one tick.
+pub fn tick(library: &mut Library, seen: &mut Ticks, tick: &Tick) -> Result<(), Failure> {
+    let answer = library.tick(&tick.chain, &tick.run)?;
+    let due = yardstick::tick(&tick.chain, tick.run);
+    seen.count(tick, &due);
+    no_late_overflow(&answer)?;
+    same_answer("the answer", &answer, &due)
+}
+
+/// Compares ticks that follow each other. One that is not clean leaves a state from which the next
+/// has the same answer.
+pub fn ticks(library: &mut Library, seen: &mut Ticks, walk: &Walk) -> Result<(), Failure> {
+    let Walk { chain, run, ticks } = walk;
+    let answers = library.ticks(chain, run, *ticks)?;
+    let mut run = *run;
+    for (i, answer) in answers.iter().enumerate() {
+        let due = yardstick::tick(chain, run);
+        seen.count(&Tick { chain: *chain, run }, &due);
+        no_late_overflow(answer)?;
+        same_answer("the answer of a tick", answer, &due)?;
+        if let Some(before) = i.checked_sub(1).map(|before| &answers[before]) {
+            if !goes_on(before) {
+                same_answer("the answer of a tick asked again", answer, before)?;
+            }
+        }
+        run = answer.run;
+    }
+    Ok(())
+}
+
+/// Compares the deadline runs of 0 ticks, of 1, and so on to so many with the yardstick's and with as
+/// many ticks from a fresh start, up to the first that is not clean.
+pub fn each_length(library: &mut Library, chain: &Chain, most: u32) -> Result<(), Failure> {
+    let runs = library.each_length(chain, most)?;
+    let ticks = library.ticks(chain, &Run::default(), u64::from(most))?;
+    let mut ticked = OutcomeRun::default();
+    for (length, run) in runs.iter().enumerate() {
+        if goes_on(&ticked) && length > 0 {
+            ticked = ticks[length - 1];
+        }
+        same_answer(
+            "the answer",
+            run,
+            &yardstick::deadline_run(chain, length as u32),
+        )?;
+        same_answer("the answer of as many ticks", &ticked, run)?;
+    }
+    Ok(())
+}
+
+/// Compares a deadline run with as many ticks from a fresh start, up to the first that is not clean.
+pub fn ticked(library: &mut Library, request: &deadline_runs::Request) -> Result<(), Failure> {
+    let (chain, ticks) = (&request.chain, request.ticks);
+    let run = library.deadline_run(chain, ticks)?;
+    let ticked = library.last_tick(chain, &Run::default(), u64::from(ticks))?;
+    same_answer("the answer of as many ticks", &ticked, &run)
+}
+
+/// Whether a tick was clean.
+fn goes_on(answer: &OutcomeRun) -> bool {
+    answer.number == 0 && answer.kind == CLEAN
+}
+
+/// Whether an overflow is one at the source: where check 8 has passed, a node has room behind it when
+/// it finishes.
+fn no_late_overflow(answer: &OutcomeRun) -> Result<(), Failure> {
+    if answer.kind == OVERFLOWED && answer.at > 0 {
+        return Err(Failure::Broken("no firing overflows as it finishes"));
+    }
+    Ok(())
 }
 
 /// Compares what writing a valid chain to large memory gave.

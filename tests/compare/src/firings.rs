@@ -55,7 +55,7 @@ pub enum Damage {
 }
 
 /// All damages.
-const DAMAGES: [Damage; 5] = [
+pub const DAMAGES: [Damage; 5] = [
     Damage::Off,
     Damage::OffByWords,
     Damage::Over,
@@ -69,7 +69,10 @@ pub fn any(random: &mut Random, n: usize) -> Firing {
     match random.below(16) {
         0 => unrelated(random, n),
         1..=3 => last(random, n, node),
-        4..=8 => damaged_anywhere(random, n),
+        4..=8 => {
+            let damages = any_damages(random, n);
+            damaged(random, n, &damages)
+        }
         _ => sound(random, n, node),
     }
 }
@@ -128,7 +131,7 @@ fn last(random: &mut Random, n: usize, node: usize) -> Firing {
 
 /// A sound state in which a node's count is the last or the one before, where there is one. A node
 /// that is fed as often as it fires has a count that is not above its producer's.
-fn last_state(random: &mut Random, chain: &Chain, node: usize) -> Option<Run> {
+pub fn last_state(random: &mut Random, chain: &Chain, node: usize) -> Option<Run> {
     (0..TRIES).find_map(|_| {
         let count = u32::MAX - random.pick(&[0, 0, 0, 1]);
         let plan = Plan::sound(chain, node, count);
@@ -164,17 +167,14 @@ fn steered(random: &mut Random, chain: &Chain, mut plan: Plan) -> Plan {
     plan
 }
 
-/// A firing with one to three damages anywhere, in most cases one.
-fn damaged_anywhere(random: &mut Random, n: usize) -> Firing {
+/// One to three damages anywhere in a state of n queues, in most cases one.
+pub fn any_damages(random: &mut Random, n: usize) -> Vec<(usize, Damage)> {
     let count = random.pick(&[1, 1, 1, 1, 2, 3]);
-    let damages: Vec<(usize, Damage)> = (0..count)
-        .map(|_| (random.below(n), random.pick(&DAMAGES)))
-        .collect();
-    damaged(random, n, &damages)
+    let damage = |_| (random.below(n), random.pick(&DAMAGES));
+    (0..count).map(damage).collect()
 }
 
-/// A firing from a state with damages, where such a state is found, and else from one that has
-/// nothing but work done too long.
+/// A firing from a state with damages.
 fn damaged(random: &mut Random, n: usize, damages: &[(usize, Damage)]) -> Firing {
     let (first, _) = damages[0];
     let chain = if random.below(2) == 0 {
@@ -182,21 +182,35 @@ fn damaged(random: &mut Random, n: usize, damages: &[(usize, Damage)]) -> Firing
     } else {
         peaked(random, n, first)
     };
-    let mut plan = Plan::sound(&chain, first, any_count(random));
-    for &(queue, damage) in damages {
-        damage_plan(random, &chain, &mut plan, queue, damage);
-    }
-    let state = nearly_planned(random, &chain, &plan);
-    let late = |damage| state.is_none() || matches!(damage, Damage::Late);
+    let run = damaged_state(random, &chain, damages);
     let node = random.below(n + 1);
-    let mut firing = dressed_as_is(random, chain, state.unwrap_or_default(), node);
+    let node = any_node(random, n, node);
+    Firing {
+        chain: littered(random, chain),
+        run,
+        node,
+    }
+}
+
+/// A state of an accepted chain with damages, where such a state is found, and else one that has
+/// nothing but work done too long; with any clock, work done and litter past n.
+pub fn damaged_state(random: &mut Random, chain: &Chain, damages: &[(usize, Damage)]) -> Run {
+    let (first, _) = damages[0];
+    let mut plan = Plan::sound(chain, first, any_count(random));
+    for &(queue, damage) in damages {
+        damage_plan(random, chain, &mut plan, queue, damage);
+    }
+    let state = nearly_planned(random, chain, &plan);
+    let late = |damage| state.is_none() || matches!(damage, Damage::Late);
+    let mut run = state.unwrap_or_default();
+    dress(random, chain, &mut run);
     for &(queue, damage) in damages {
         if late(damage) {
-            let work = firing.chain.work[queue];
-            firing.run.done[queue] = random.pick(&[work, work, work + 1, u32::MAX]);
+            let work = chain.work[queue];
+            run.done[queue] = random.pick(&[work, work, work + 1, u32::MAX]);
         }
     }
-    firing
+    run
 }
 
 /// Damages a queue in a plan, which has nothing to say about work.
@@ -239,7 +253,7 @@ fn any_words_off(random: &mut Random) -> i64 {
 }
 
 /// A count: small, any, or near the last.
-fn any_count(random: &mut Random) -> u32 {
+pub fn any_count(random: &mut Random) -> u32 {
     match random.below(4) {
         0 => random.below(64) as u32,
         1 => u32::MAX - random.below(64) as u32,
@@ -247,24 +261,19 @@ fn any_count(random: &mut Random) -> u32 {
     }
 }
 
-/// A firing from a state that is dressed, with limits moved to it in two of three cases.
-fn dressed(random: &mut Random, chain: Chain, run: Run, node: usize) -> Firing {
-    let mut firing = dressed_as_is(random, chain, run, node);
+/// A firing from a state with any clock, work done and litter past n in chain and state, with limits
+/// moved to it in two of three cases.
+fn dressed(random: &mut Random, chain: Chain, mut run: Run, node: usize) -> Firing {
+    dress(random, &chain, &mut run);
+    let mut firing = Firing {
+        run,
+        node: any_node(random, chain.n as usize, node),
+        chain: littered(random, chain),
+    };
     if random.below(3) > 0 {
         move_limits(random, &mut firing, node);
     }
     firing
-}
-
-/// A firing from a state with any clock, work done and litter past n in chain and state.
-fn dressed_as_is(random: &mut Random, chain: Chain, mut run: Run, node: usize) -> Firing {
-    dress(random, &chain, &mut run);
-    let node = any_node(random, chain.n as usize, node);
-    Firing {
-        chain: littered(random, chain),
-        run,
-        node,
-    }
 }
 
 /// Moves the threshold before a node to what is held there or one above, the capacity behind it to
@@ -299,7 +308,7 @@ fn put_capacity(queue: &mut Queue, capacity: u32) {
 }
 
 /// A node, or in one of eight cases one that a chain of n queues does not have.
-fn any_node(random: &mut Random, n: usize, node: usize) -> u32 {
+pub fn any_node(random: &mut Random, n: usize, node: usize) -> u32 {
     let (n, node) = (n as u32, node as u32);
     let none = [
         n + 1,

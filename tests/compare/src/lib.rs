@@ -9,6 +9,7 @@ pub mod rates;
 pub mod small;
 pub mod states;
 pub mod steered;
+pub mod timed;
 
 /// The header's room that every report fits, 34 bytes for the first line, 67 for each of 16 queues
 /// and 27 for the last line: the library writes straight to so much, and copies to less.

@@ -10,7 +10,8 @@ use std::os::unix::net::UnixStream;
 use std::process::{Child, Command};
 use std::time::Duration;
 use yardstick::{
-    packed_length, AnalysisAnswer, Chain, ChainAnswer, LengthAnswer, Run, RunAnswer, MAX_QUEUES,
+    packed_length, AnalysisAnswer, Chain, ChainAnswer, DeadlineAnswer, LengthAnswer, OutcomeRun,
+    Run, RunAnswer, MAX_QUEUES,
 };
 
 /// How long the command may take to go on with a request or an answer.
@@ -161,6 +162,52 @@ impl Library {
         self.run_answer()
     }
 
+    /// The deadline of a node's firing of an index.
+    pub fn deadline(
+        &mut self,
+        chain: &Chain,
+        node: u32,
+        index: u32,
+    ) -> Result<DeadlineAnswer, Lost> {
+        let (node, index) = (node.to_le_bytes(), index.to_le_bytes());
+        self.ask(&[b"q", chain.bytes(), &node, &index])?;
+        let mut answer = DeadlineAnswer::default();
+        self.take(answer.bytes_mut())?;
+        Ok(answer)
+    }
+
+    /// The outcome of a deadline run of so many ticks.
+    pub fn deadline_run(&mut self, chain: &Chain, ticks: u32) -> Result<OutcomeRun, Lost> {
+        self.ask(&[b"d", chain.bytes(), &ticks.to_le_bytes()])?;
+        self.outcome_run()
+    }
+
+    /// The outcomes of deadline runs of 0 ticks, of 1, and so on to so many.
+    pub fn each_length(&mut self, chain: &Chain, most: u32) -> Result<Vec<OutcomeRun>, Lost> {
+        self.ask(&[b"e", chain.bytes(), &most.to_le_bytes()])?;
+        (0..=most).map(|_| self.outcome_run()).collect()
+    }
+
+    /// The outcome of one tick.
+    pub fn tick(&mut self, chain: &Chain, run: &Run) -> Result<OutcomeRun, Lost> {
+        self.ask(&[b"t", chain.bytes(), run.bytes()])?;
+        self.outcome_run()
+    }
+
+    /// The outcomes of so many ticks one after the other, each from the state that the one before
+    /// left.
+    pub fn ticks(&mut self, chain: &Chain, run: &Run, count: u64) -> Result<Vec<OutcomeRun>, Lost> {
+        self.ask(&[b"k", chain.bytes(), run.bytes(), &count.to_le_bytes()])?;
+        (0..count).map(|_| self.outcome_run()).collect()
+    }
+
+    /// The outcome of the last of so many ticks one after the other, or of the first that is refused
+    /// or not clean.
+    pub fn last_tick(&mut self, chain: &Chain, run: &Run, count: u64) -> Result<OutcomeRun, Lost> {
+        self.ask(&[b"u", chain.bytes(), run.bytes(), &count.to_le_bytes()])?;
+        self.outcome_run()
+    }
+
     /// Writes a chain to so many zero bytes, reads them, and reports to them on the chain's packed
     /// file; nothing if they can't be had.
     pub fn large(&mut self, chain: &Chain, length: u64) -> Result<Option<Large>, Lost> {
@@ -188,6 +235,13 @@ impl Library {
     /// Takes an answer with a run state.
     fn run_answer(&mut self) -> Result<RunAnswer, Lost> {
         let mut answer = RunAnswer::default();
+        self.take(answer.bytes_mut())?;
+        Ok(answer)
+    }
+
+    /// Takes an answer with an outcome.
+    fn outcome_run(&mut self) -> Result<OutcomeRun, Lost> {
+        let mut answer = OutcomeRun::default();
         self.take(answer.bytes_mut())?;
         Ok(answer)
     }

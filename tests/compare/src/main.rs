@@ -6,27 +6,39 @@
 
 mod analysed;
 mod comparison;
+mod deadline_runs;
+mod deadline_sights;
+mod due;
+mod figures;
 mod files;
 mod firings;
+mod instants;
 mod lent;
 mod library;
 mod plain;
+mod questions;
 mod records;
 mod run_sights;
 mod runs;
 mod sights;
 mod simulated;
 mod tally;
+mod tick_sights;
+mod ticks;
 mod watch;
 
 use analysed::Request;
 use compare::loaded::accepted;
 use compare::random::Random;
 use compare::small::small;
+use compare::timed::brisk;
 use comparison::{decimal, due_answers, hex, Failure};
+use deadline_runs::without_deadline;
+use deadline_sights::{DeadlineRuns, Questions};
 use firings::{Firing, History};
 use library::{Library, Lost};
 use plain::Plain;
+use questions::Question;
 use records::Record;
 use run_sights::{Firings, Runs};
 use sights::{Analyses, Reports};
@@ -34,8 +46,10 @@ use std::env;
 use std::ffi::OsString;
 use std::process::ExitCode;
 use tally::Tally;
+use tick_sights::Ticks;
+use ticks::{Tick, Walk};
 use watch::Watch;
-use yardstick::{packed_length, Chain, MAX_QUEUES};
+use yardstick::{deadline_run, packed_length, Chain, MAX_QUEUES, MAX_TICKS};
 
 /// The seed of a run that is given none.
 const SEED: u64 = 1;
@@ -43,7 +57,9 @@ const SEED: u64 = 1;
 /// The random files, records and factory numbers of a run, the chains that are analysed and
 /// reported on, and the files that are reported on with any room; the fresh starts, the single
 /// firings, the walks on a chain of each n, the immediate runs, and the small chains that are
-/// watched.
+/// watched; the deadline questions, the deadline runs, the chains whose runs are made at each length
+/// and those whose instants are watched, the single ticks, and the times that ticks follow each other
+/// from each kind of state on a chain of each n.
 const FILES: usize = 300_000;
 const RECORDS: usize = 250_000;
 const FACTORY_NUMBERS: usize = 20_000;
@@ -54,12 +70,21 @@ const FIRINGS: usize = 120_000;
 const WALKS: usize = 4;
 const IMMEDIATE_RUNS: usize = 32_000;
 const WATCHED: usize = 2_000;
+const QUESTIONS: usize = 64_000;
+const DEADLINE_RUNS: usize = 24_000;
+const EACH_LENGTH: usize = 1_600;
+const WATCHED_INSTANTS: usize = 1_600;
+const TICKS: usize = 120_000;
+const TICK_WALKS: usize = 24;
 
 /// The fewest inputs that make a run.
 const FEWEST: u64 = 1_000_000;
 
 /// The fewest chains of a run that pass checks 2, 4 and 5 and are both analysed and reported on.
 const FEWEST_CHAINS: u64 = 200_000;
+
+/// The most ticks of runs that are made at each length.
+const LENGTHS: usize = 160;
 
 /// The most differences that are shown.
 const SHOWN: u64 = 5;
@@ -77,6 +102,10 @@ struct Run {
     firings: Firings,
     runs: Runs,
     watched: Tally<&'static str>,
+    questions: Questions,
+    deadline_runs: DeadlineRuns,
+    instants: Tally<&'static str>,
+    ticks: Ticks,
     passed: u64,
     failed: u64,
 }
@@ -96,6 +125,10 @@ impl Run {
             firings: Firings::default(),
             runs: Runs::default(),
             watched: Tally::default(),
+            questions: Questions::default(),
+            deadline_runs: DeadlineRuns::default(),
+            instants: Tally::default(),
+            ticks: Ticks::default(),
             passed: 0,
             failed: 0,
         }
@@ -125,6 +158,13 @@ impl Run {
         self.compare_walks()?;
         self.compare_runs()?;
         self.watch_small()?;
+        self.compare_figures()?;
+        self.compare_questions()?;
+        self.compare_deadline_runs()?;
+        self.compare_ticks()?;
+        self.compare_each_length()?;
+        self.watch_instants()?;
+        self.compare_long_runs()?;
         self.compare_large()
     }
 
@@ -328,6 +368,126 @@ impl Run {
         Ok(())
     }
 
+    /// Compares the paper's figures.
+    fn compare_figures(&mut self) -> Result<(), Lost> {
+        for (name, result) in figures::all(&mut self.library) {
+            self.settle(result, || format!("figures: {name}"))?;
+        }
+        Ok(())
+    }
+
+    /// Compares the deadline question.
+    fn compare_questions(&mut self) -> Result<(), Lost> {
+        for question in questions::limits(&mut self.random) {
+            self.compare_question(&question)?;
+        }
+        for i in 0..QUESTIONS {
+            let question = questions::any(&mut self.random, 1 + i % MAX_QUEUES);
+            self.compare_question(&question)?;
+        }
+        Ok(())
+    }
+
+    /// Compares one deadline question.
+    fn compare_question(&mut self, question: &Question) -> Result<(), Lost> {
+        let result = comparison::deadline(&mut self.library, &mut self.questions, question);
+        self.settle(result, || {
+            let chain = decimal(question.chain.bytes());
+            let (node, index) = (question.node, question.index);
+            format!("deadline, node {node}, index {index}: {chain}")
+        })
+    }
+
+    /// Compares the deadline run.
+    fn compare_deadline_runs(&mut self) -> Result<(), Lost> {
+        for request in deadline_runs::limits(&mut self.random) {
+            self.compare_deadline_run(&request)?;
+        }
+        for i in 0..DEADLINE_RUNS {
+            let request = deadline_runs::any(&mut self.random, 1 + i % MAX_QUEUES);
+            self.compare_deadline_run(&request)?;
+        }
+        Ok(())
+    }
+
+    /// Compares one deadline run.
+    fn compare_deadline_run(&mut self, request: &deadline_runs::Request) -> Result<(), Lost> {
+        let result = comparison::deadline_run(&mut self.library, &mut self.deadline_runs, request);
+        self.settle(result, || deadline_run_input(request))
+    }
+
+    /// Compares the longest deadline runs, and each with as many ticks.
+    fn compare_long_runs(&mut self) -> Result<(), Lost> {
+        for request in deadline_runs::long(&mut self.random) {
+            self.compare_deadline_run(&request)?;
+            let result = comparison::ticked(&mut self.library, &request);
+            self.settle(result, || deadline_run_input(&request))?;
+        }
+        Ok(())
+    }
+
+    /// Compares the deadline runs of each length with as many ticks.
+    fn compare_each_length(&mut self) -> Result<(), Lost> {
+        for i in 0..EACH_LENGTH {
+            let chain = brisk(&mut self.random, 1 + i % MAX_QUEUES);
+            let most = self.random.below(LENGTHS) as u32;
+            let result = comparison::each_length(&mut self.library, &chain, most);
+            self.settle(result, || {
+                format!("each length to {most}: {}", decimal(chain.bytes()))
+            })?;
+        }
+        Ok(())
+    }
+
+    /// Watches the instants of deadline runs, and of ticks that come to a node without a deadline.
+    fn watch_instants(&mut self) -> Result<(), Lost> {
+        for i in 0..WATCHED_INSTANTS {
+            let chain = brisk(&mut self.random, 1 + i % MAX_QUEUES);
+            let most = self.random.below(LENGTHS) as u32;
+            let result = instants::watch_runs(&mut self.library, &mut self.instants, &chain, most);
+            self.settle(result, || {
+                format!("instants to {most}: {}", decimal(chain.bytes()))
+            })?;
+        }
+        for node in 2..=MAX_QUEUES {
+            let chain = without_deadline(&mut self.random, node, node);
+            let ticks = deadline_run(&chain, MAX_TICKS).tick + 2;
+            let result =
+                instants::watch_ticks(&mut self.library, &mut self.instants, &chain, ticks);
+            self.settle(result, || {
+                format!("instants of {ticks} ticks: {}", decimal(chain.bytes()))
+            })?;
+        }
+        Ok(())
+    }
+
+    /// Compares single ticks, and ticks that follow each other.
+    fn compare_ticks(&mut self) -> Result<(), Lost> {
+        for tick in ticks::limits(&mut self.random) {
+            self.compare_tick(&tick)?;
+        }
+        for i in 0..TICKS {
+            let tick = ticks::any(&mut self.random, 1 + i % MAX_QUEUES);
+            self.compare_tick(&tick)?;
+        }
+        for i in 0..TICK_WALKS * MAX_QUEUES {
+            for walk in ticks::walks(&mut self.random, 1 + i % MAX_QUEUES) {
+                let result = comparison::ticks(&mut self.library, &mut self.ticks, &walk);
+                self.settle(result, || walk_input(&walk))?;
+            }
+        }
+        Ok(())
+    }
+
+    /// Compares one tick.
+    fn compare_tick(&mut self, tick: &Tick) -> Result<(), Lost> {
+        let result = comparison::tick(&mut self.library, &mut self.ticks, tick);
+        self.settle(result, || {
+            let (chain, run) = (decimal(tick.chain.bytes()), decimal(tick.run.bytes()));
+            format!("tick, run {run}: {chain}")
+        })
+    }
+
     /// Compares reader, writer and report on lent memory whose length, cut to 32 bits, would be
     /// that of a packed file.
     fn compare_large(&mut self) -> Result<(), Lost> {
@@ -397,6 +557,10 @@ impl Run {
         lines.extend(self.firings.lines());
         lines.extend(self.runs.lines());
         lines.push(self.watched.line("watch", watch::SIGHTS));
+        lines.extend(self.questions.lines());
+        lines.extend(self.deadline_runs.lines());
+        lines.push(self.instants.line("instants", instants::SIGHTS));
+        lines.extend(self.ticks.lines());
         for line in lines {
             println!("{}: {}", line.name, line.seen);
             for missing in line.missing {
@@ -420,6 +584,18 @@ fn history_input(history: &History) -> String {
     let (chain, run) = (decimal(history.chain.bytes()), decimal(history.run.bytes()));
     let nodes: Vec<String> = history.nodes.iter().map(u32::to_string).collect();
     format!("fire, nodes {}, run {run}: {chain}", nodes.join(" "))
+}
+
+/// A deadline run as it is shown.
+fn deadline_run_input(request: &deadline_runs::Request) -> String {
+    let chain = decimal(request.chain.bytes());
+    format!("deadline run, {} ticks: {chain}", request.ticks)
+}
+
+/// Ticks that follow each other as they are shown.
+fn walk_input(walk: &Walk) -> String {
+    let (chain, run) = (decimal(walk.chain.bytes()), decimal(walk.run.bytes()));
+    format!("{} ticks, run {run}: {chain}", walk.ticks)
 }
 
 /// The seed and the command that the arguments give.

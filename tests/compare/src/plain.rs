@@ -2,7 +2,10 @@
 
 use std::mem::size_of;
 use std::slice;
-use yardstick::{AnalysisAnswer, Chain, ChainAnswer, LengthAnswer, Run, RunAnswer, MAX_QUEUES};
+use yardstick::{
+    AnalysisAnswer, Chain, ChainAnswer, DeadlineAnswer, LengthAnswer, OutcomeRun, Run, RunAnswer,
+    MAX_QUEUES,
+};
 
 /// A struct whose bytes are its fields.
 ///
@@ -30,6 +33,8 @@ unsafe impl Plain for LengthAnswer {}
 unsafe impl Plain for AnalysisAnswer {}
 unsafe impl Plain for Run {}
 unsafe impl Plain for RunAnswer {}
+unsafe impl Plain for DeadlineAnswer {}
+unsafe impl Plain for OutcomeRun {}
 
 const _: () = assert!(size_of::<Chain>() == 4 * (2 + 5 * MAX_QUEUES + MAX_QUEUES));
 const _: () = assert!(size_of::<ChainAnswer>() == 4 + 4 + size_of::<Chain>());
@@ -37,3 +42,5 @@ const _: () = assert!(size_of::<LengthAnswer>() == 4 + 4 + 8);
 const _: () = assert!(size_of::<AnalysisAnswer>() == 4 * (2 + 1 + 6 * MAX_QUEUES + 2));
 const _: () = assert!(size_of::<Run>() == 4 * (1 + (MAX_QUEUES + 1) + 2 * MAX_QUEUES));
 const _: () = assert!(size_of::<RunAnswer>() == 4 + 4 + size_of::<Run>());
+const _: () = assert!(size_of::<DeadlineAnswer>() == 4 + 4 + 8);
+const _: () = assert!(size_of::<OutcomeRun>() == 4 * 5 + size_of::<Run>());

@@ -75,6 +75,14 @@ pub fn minimum(queue: &Queue) -> u32 {
     below - below % g + queue.produce
 }
 
+/// The capacity in force of a valid queue.
+pub fn capacity(queue: &Queue) -> u32 {
+    match queue.capacity {
+        0 => minimum(queue),
+        capacity => capacity,
+    }
+}
+
 /// The greatest common divisor of two numbers that are not both 0.
 pub fn gcd(a: u64, b: u64) -> u64 {
     match b {

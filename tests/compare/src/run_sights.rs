@@ -91,16 +91,16 @@ const NOT_RAN: [&str; 6] = [
 
 /// Why a queue's state is damaged.
 #[derive(Clone, Copy, Default)]
-struct Reasons {
+pub struct Reasons {
     /// What is held less what it should be.
-    off: i64,
-    over: bool,
-    late: bool,
+    pub off: i64,
+    pub over: bool,
+    pub late: bool,
 }
 
 impl Reasons {
     /// The reasons of each queue of an accepted chain.
-    fn of(chain: &Chain, sizes: &[QueueSize], run: &Run) -> Vec<Self> {
+    pub fn of(chain: &Chain, sizes: &[QueueSize], run: &Run) -> Vec<Self> {
         let reasons = |(i, size): (usize, &QueueSize)| {
             let queue = &chain.queues[i];
             let put = i64::from(queue.produce) * i64::from(run.counts[i]);
@@ -115,7 +115,7 @@ impl Reasons {
     }
 
     /// How many there are.
-    fn count(&self) -> usize {
+    pub fn count(&self) -> usize {
         usize::from(self.off != 0) + usize::from(self.over) + usize::from(self.late)
     }
 }

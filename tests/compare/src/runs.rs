@@ -99,7 +99,7 @@ pub fn any(random: &mut Random, n: usize) -> Request {
 }
 
 /// A chain with litter past n, if it has any slots there.
-fn littered_if_valid(random: &mut Random, chain: Chain) -> Chain {
+pub fn littered_if_valid(random: &mut Random, chain: Chain) -> Chain {
     match chain.n as usize {
         1..=MAX_QUEUES => littered(random, chain),
         _ => chain,
@@ -128,16 +128,21 @@ fn tight(random: &mut Random, n: usize, queue: usize) -> Request {
     if random.below(4) > 0 {
         make_room(random, &mut chain);
     }
-    let minimum = minimum(&chain.queues[queue]);
-    if minimum > 1 {
-        let less = random.below(minimum as usize - 1) as u32;
-        chain.queues[queue].capacity = random.pick(&[minimum - 1, 1 + less]);
-    }
+    tighten(random, &mut chain.queues[queue]);
     let k = match random.below(3) {
         0 => random.below(100) as u32,
         _ => any_word(random),
     };
     Request { chain, k }
+}
+
+/// Gives a valid queue a capacity below its minimum, if there is one that is not 0.
+pub fn tighten(random: &mut Random, queue: &mut Queue) {
+    let minimum = minimum(queue);
+    if minimum > 1 {
+        let less = random.below(minimum as usize - 1) as u32;
+        queue.capacity = random.pick(&[minimum - 1, 1 + less]);
+    }
 }
 
 /// A run in which a node passes the limit by exactly one firing, or any node by many.

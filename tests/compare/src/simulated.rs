@@ -1,7 +1,7 @@
 //! A chain that is fired by the rule of the paper alone, one node after the other.
 
 use compare::random::Random;
-use compare::rates::minimum;
+use compare::rates::capacity;
 use std::ops::RangeInclusive;
 use yardstick::{Chain, Queue, Run};
 
@@ -21,10 +21,7 @@ impl Simulated {
         let n = chain.n as usize;
         let words = |words: &[u32]| words.iter().copied().map(u64::from).collect();
         let queues = chain.queues[..n].to_vec();
-        let capacity = |queue: &Queue| match queue.capacity {
-            0 => u64::from(minimum(queue)),
-            capacity => u64::from(capacity),
-        };
+        let capacity = |queue: &Queue| u64::from(capacity(queue));
         Simulated {
             capacities: queues.iter().map(capacity).collect(),
             queues,

@@ -1,8 +1,7 @@
-//! The immediate run, with checks 8 and 9.
+//! The immediate run, with check 9.
 
-use crate::analysis::QueueSize;
 use crate::chain::{Chain, Queue, Refusal};
-use crate::run::{accepted, take_effect, Run, RunAnswer};
+use crate::run::{runnable, take_effect, Run, RunAnswer};
 
 /// The most firings of a node.
 pub const MAX_FIRINGS: u32 = 1_000_000;
@@ -15,26 +14,13 @@ pub fn immediate(chain: &Chain, firings: u32) -> RunAnswer {
 
 /// The checks in order, then the firings one by one.
 fn ran(chain: &Chain, firings: u32) -> Result<Run, Refusal> {
-    let analysis = accepted(chain)?;
-    let queues = &chain.queues[..chain.n as usize];
-    check_capacities(&analysis.queues[..queues.len()])?;
-    check_counts(queues, firings)?;
+    runnable(chain)?;
+    check_counts(&chain.queues[..chain.n as usize], firings)?;
     let mut run = Run::default();
     for _ in 0..firings {
         fire(chain, &mut run, 0);
     }
     Ok(run)
-}
-
-/// Check 8: no capacity below its minimum.
-fn check_capacities(queues: &[QueueSize]) -> Result<(), Refusal> {
-    match queues.iter().position(|queue| queue.margin < 0) {
-        Some(i) => Err(Refusal {
-            number: 8,
-            place: i as u32,
-        }),
-        None => Ok(()),
-    }
 }
 
 /// Check 9: the count at the end of every node from the source on. One that passes ends the search,

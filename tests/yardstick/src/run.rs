@@ -1,4 +1,5 @@
-//! The run state: a fresh start and manual firing, with checks 17, 9, 11 and 12.
+//! The run state: a fresh start and manual firing, with checks 17, 9, 11 and 12; and check 8, which
+//! is that of every other call that runs a chain.
 
 use crate::analysis::{analysed, Analysis};
 use crate::chain::{checked_record, Chain, Refusal, MAX_QUEUES};
@@ -65,6 +66,19 @@ pub(crate) fn accepted(chain: &Chain) -> Result<Analysis, Refusal> {
     analysed(chain)
 }
 
+/// The analysis of an accepted chain that check 8 lets pass too: no capacity is below its minimum.
+pub(crate) fn runnable(chain: &Chain) -> Result<Analysis, Refusal> {
+    let analysis = accepted(chain)?;
+    let mut queues = analysis.queues[..chain.n as usize].iter();
+    match queues.position(|queue| queue.margin < 0) {
+        Some(i) => Err(Refusal {
+            number: 8,
+            place: i as u32,
+        }),
+        None => Ok(analysis),
+    }
+}
+
 /// All checks of a firing in order. The answer is the node.
 fn checked_firing(chain: &Chain, run: &Run, node: u32) -> Result<usize, Refusal> {
     let analysis = accepted(chain)?;
@@ -74,7 +88,7 @@ fn checked_firing(chain: &Chain, run: &Run, node: u32) -> Result<usize, Refusal>
 }
 
 /// Check 17: each queue's balance, its capacity, and the work done by the node it feeds.
-fn check_state(chain: &Chain, analysis: &Analysis, run: &Run) -> Result<(), Refusal> {
+pub(crate) fn check_state(chain: &Chain, analysis: &Analysis, run: &Run) -> Result<(), Refusal> {
     let sound = |i: usize| {
         let queue = &chain.queues[i];
         let put = u64::from(queue.produce) * u64::from(run.counts[i]);
