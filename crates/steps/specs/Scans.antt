@@ -3,8 +3,8 @@
 --   looked-none, -rests, -dated, -found, -end
 --                            at the start, past a node below threshold, past one whose deadline can be had, at one whose deadline cannot, and at the end
 --   Chosen f d j i e         i is the choice among the first j nodes, and e its deadline, or never where there is none
---   chosen-none, -taken, -left, -end
---                            at the start, with node j+1 chosen and not chosen, and at the end
+--   chosen-none, -taken, -under, -later, -end
+--                            at the start, with node j+1 chosen, past it where it is below threshold or later, and at the end
 use mathlib.Core.Path.{_≡_, refl, sym, ap, subst, _∙_}
 use mathlib.Core.Logic.{_≢_, ⊎-elim, by-cases}
 use mathlib.Core.Bool.{Bool, true, false, cond, _&&_, not}
@@ -18,7 +18,6 @@ use lib.Dec.{eqb, leb}
 use lib.ListN.{getD}
 use borrow.Author.Tests.{eq-eqb, ne-eqb, le-leb, lt-leb}
 use Rattle.words.specs.Table.{tab}
-use Rattle.chain.specs.Tests.{and-true, and-false, upto-true, upto-false}
 use Rattle.chain.specs.Refusals.{first, refused, fine, Silent, lowest-is, all-silent, first-fine}
 use Rattle.chain.specs.Record.{rowOf}
 use Rattle.chain.specs.Sound.{Sound}
@@ -163,8 +162,8 @@ late c s new zero m h = absurd (omega arith)
 late c s new (suc i) m h = lt-leb _ _ h
 
 module _ {f d : List ℕ} {j i e : ℕ} (a : Chosen f d j i e) (h : j < sizeIn f) where
-  taken : thresholdIn f j ≤ heldIn f j → getD d j 0 ≤ e → Chosen f d (j + 1) (j + 1) (getD d j 0)
-  taken o u = rw add-one (record {
+  pub chosen-taken : thresholdIn f j ≤ heldIn f j → getD d j 0 ≤ e → Chosen f d (j + 1) (j + 1) (getD d j 0)
+  chosen-taken o u = rw add-one (record {
     reach = omega arith;
     is = λ {c} {s} k x q z.
         let l : j < c .n = omega (arith, x .many) in
@@ -173,8 +172,8 @@ module _ {f d : List ℕ} {j i e : ℕ} (a : Chosen f d j i e) (h : j < sizeIn f
         (new-taken c s j (le-leb _ _ (over-shown x j l o)) (early c s (suc j) (choice c s j) (rw (was .0) (omega (arith, now .0, was .1)))), now .0);
   })
 
-  under : heldIn f j < thresholdIn f j → Chosen f d (j + 1) i e
-  under o = rw add-one (record {
+  pub chosen-under : heldIn f j < thresholdIn f j → Chosen f d (j + 1) i e
+  chosen-under o = rw add-one (record {
     reach = omega arith;
     is = λ {c} {s} k x q z.
         let l : j < c .n = omega (arith, x .many) in
@@ -182,8 +181,8 @@ module _ {f d : List ℕ} {j i e : ℕ} (a : Chosen f d j i e) (h : j < sizeIn f
         (new-under c s j (under-shown x j l o) ∙ was .0, was .1);
   })
 
-  later : e < getD d j 0 → Chosen f d (j + 1) i e
-  later u = rw add-one (record {
+  pub chosen-later : e < getD d j 0 → Chosen f d (j + 1) i e
+  chosen-later u = rw add-one (record {
     reach = omega arith;
     is = λ {c} {s} k x q z.
         let l : j < c .n = omega (arith, x .many) in
@@ -195,13 +194,6 @@ module _ {f d : List ℕ} {j i e : ℕ} (a : Chosen f d j i e) (h : j < sizeIn f
           was .1,
         );
   })
-
-  -- the test that code makes: over threshold, and as early as the best so far
-  pub chosen-taken : leb (thresholdIn f j) (heldIn f j) && leb (getD d j 0) e ≡ true → Chosen f d (j + 1) (j + 1) (getD d j 0)
-  chosen-taken t = let b = and-true (upto-true (thresholdIn f j) (heldIn f j)) (upto-true (getD d j 0) e) .0 t in taken (b .0) (b .1)
-
-  pub chosen-left : leb (thresholdIn f j) (heldIn f j) && leb (getD d j 0) e ≡ false → Chosen f d (j + 1) i e
-  chosen-left t = ⊎-elim under later (and-false (upto-false (thresholdIn f j) (heldIn f j)) (upto-false (getD d j 0) e) .0 t)
 
 pub chosen-end : {f d : List ℕ} {j i e : ℕ} → Chosen f d j i e → sizeIn f ≤ j → ChosenGives f d i
 unfolding chosen

@@ -185,9 +185,11 @@ pub fn chosen(flow: &[u32; LENGTH], due: &[u64; 16]) -> usize
     let mut earliest = NEVER;
     let mut j = 0;
     while j < n {
-        if (flow[THRESHOLD + j] <= flow[HELD + j]) & (due[j] <= earliest) {
-            node = j + 1;
-            earliest = due[j];
+        if flow[THRESHOLD + j] <= flow[HELD + j] {
+            if due[j] <= earliest {
+                node = j + 1;
+                earliest = due[j];
+            }
         }
         j += 1;
     }
