@@ -1,5 +1,5 @@
--- What the public calls promise of one tick and of a deadline run, handed on from the crates `instants` (their meaning), `choice` (the node that
--- works), `traces` (their firings) and `tickpast` (the slots past n).
+-- What the public calls promise of one tick and of a deadline run, handed on from the crates `instants` (their meaning), `traces` (their
+-- firings) and `tickpast` (the slots past n).
 unfoldable pub use Rattle.instants.specs.Steps.{goes, onward, sourced, lacking, choose, chosen, worked, endedIn, finish, finished, begun, advanced, tick, ticks, instants}
 pub use Rattle.instants.specs.Steps.{numberOf, valuesOf, kindOf, tickOf, atOf, kind-number, kind-values, clean, overflowed, undated, withClock, withDone, divides, next, lackingTest, asEarly, ended}
 unfoldable pub use Rattle.instants.specs.Checks.{spentCheck, tickRefusal, deadlineRunRefusal, outcomeOf, tickAnswer, deadlineRunAnswer}
@@ -8,8 +8,8 @@ pub use Rattle.instants.specs.Refusals.{clock-exact, clock-silent, clock-only, 
 pub use Rattle.instants.specs.Runs.{onward-clean, onward-none, onward-then, instants-ticks, ticks-more}
 pub use Rattle.instants.specs.Kept.{Running, TickStep, Countable, tick-step}
 pub use Rattle.instants.specs.Fresh.{fresh-running, fresh-rests, run-is-ticks, Paced, fresh-paced, tick-paced}
-pub use Rattle.choice.specs.Best.{First, Best, choose-best, best-unique, choose-is, chosen-best, chosen-only, choose-shift, chosen-shift}
-pub use Rattle.choice.specs.Spill.{room-after-choice, finish-never-spills, ticks-never-spill, run-never-spills}
+pub use Rattle.instants.specs.Best.{First, Best, choose-best, best-unique, choose-is, chosen-best, chosen-only, choose-shift, chosen-shift}
+pub use Rattle.instants.specs.Spill.{room-after-choice, finish-never-spills, ticks-never-spill, run-never-spills}
 unfoldable pub use Rattle.traces.specs.Trace.{tracing, sourceEntry, finishEntry, finishTrace, tickTrace, trace}
 pub use Rattle.traces.specs.Trace.{Entry, nodes, resting, Replays, tick-traced, traced, run-traced, run-counted, run-balance, run-naming}
 unfoldable pub use Rattle.traces.specs.Rising.{Rising}

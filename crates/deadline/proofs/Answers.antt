@@ -1,28 +1,27 @@
 -- The answer of a deadline question, as its code puts it together, and what the code of a next firing's deadline makes of it.
-use mathlib.Core.Path.{_≡_, refl, sym, ap, _∙_}
+use mathlib.Core.Path.{_≡_, refl, sym, ap, ap₂, _∙_}
+use mathlib.Core.Logic.{by-cases}
 use mathlib.Core.Bool.{Bool, true, false, _||_}
 use mathlib.Core.List.{List, [], _∷_}
 use Prim.Native.Nat.{ℕ, zero, suc, _+_, _<_}
+use native.Mathlib.Decide.{ℕ-discrete}
 use native.Mathlib.Omega.{arith}
 use lib.Dec.{ltb, eqb}
-use borrow.Author.Tests.{eq-eqb}
-use Rattle.chain.specs.Refusals.{refused, fine, test, first, first-fine, orElse, Silent, silent-as, or-left, or-right, test-silent}
+use Rattle.chain.specs.Refusals.{fine, test, first, first-fine, orElse, Silent, silent-as, or-left, or-right, test-silent}
 use Rattle.chain.specs.Record.{rowOf}
 use Rattle.chain.specs.Sound.{Sound}
 use Rattle.chain.specs.declared.Refusal.{Refusal}
 use Rattle.chain.specs.declared.Chain.{Chain}
 use Rattle.sizing.specs.Checks.{limit, runAnswer}
-use Rattle.sizing.specs.Accepted.{run-accepts, run-said, run-quiet}
+use Rattle.sizing.specs.Accepted.{run-said}
 use Rattle.sizing.specs.declared.AnalysisAnswer.{AnalysisAnswer}
-use Rattle.state.specs.State.{countAt, freshRun}
+use Rattle.state.specs.State.{freshRun}
 use Rattle.state.specs.Checks.{analysed-run}
-use Rattle.state.specs.declared.Run.{Run}
 use Rattle.flow.specs.Flow.{countIn, Shows}
-use Rattle.deadlines.specs.Deadline.{earlier, deadline, indexCheck}
+use Rattle.deadlines.specs.Deadline.{earlier, deadline, indexCheck, index-only}
 use Rattle.deadline.specs.Plan.{Plans}
-use Rattle.deadline.specs.Question.{answeredDue, refusedWith, answered-refused, dueOf, never, datedOf, askCheck, deadlineRefusal, deadlineAnswer, ask-silent, deadline-parts, dated-never}
-use Rattle.deadline.specs.Dues.{Shown, Dues, DueGives, Dated, DatedGives}
-use Rattle.deadline.specs.declared.DeadlineAnswer.{DeadlineAnswer}
+use Rattle.deadline.specs.Question.{answeredDue, refusedWith, answered-refused, answered-fine, never, datedOf, askCheck, deadlineChecks, deadlineRefusal, deadlineAnswer, ask-silent, deadline-parts, dated-had, dated-never, dated-exact}
+use Rattle.deadline.specs.Dues.{Dues, DueGives, PassingGives, Dated, DatedGives}
 
 -- 13 as the last check of a list: nothing stands behind it
 index-last : (c : Chain) (i k : ℕ) → orElse (indexCheck c i k) fine ≡ indexCheck c i k
@@ -72,13 +71,28 @@ module _ (c : Chain) (i k : ℕ) {a : AnalysisAnswer} (e : a ≡ runAnswer c) wh
         index = ask-silent c i k .0 asked .1;
       }
 
-      pub due-answers : {l f : List ℕ} → Plans l c → Shows f c (freshRun c) → {r : DeadlineAnswer} → DueGives l f i k r → r ≡ deadlineAnswer c i k
-      unfolding deadlineAnswer dueOf first
-      due-answers p s g =
-          g .due (record { plans = p; shows = s })
-          ∙ ap (λ (h : Refusal). answeredDue h (deadline c i k)) (own (or-right {a = askCheck c i k} refl asked (sym (index-last c i k))))
+      -- only 13 is left to speak
+      last : indexCheck c i k ≡ deadlineRefusal c i k
+      unfolding first
+      last = own (or-right {a = askCheck c i k} refl asked (sym (index-last c i k)))
 
--- the next firing's index, and the deadline that is had or not
+      module _ {l f : List ℕ} (p : Plans l c) (s : Shows f c (freshRun c)) {d : ℕ} (g : DueGives l f i k d) where
+        due : d ≡ datedOf c i k
+        due = g .due (record { plans = p; shows = s })
+
+        pub never-answers : d ≡ never → {j : ℕ} → PassingGives l f i k j → refusedWith 13 j ≡ deadlineAnswer c i k
+        never-answers z {j} h =
+            let n : Silent (indexCheck c i k) → ⊥ = dated-exact sound-chain i k .0 (sym due ∙ z) in
+            let place : j ≡ indexCheck c i k .place = h .place (record { plans = p; shows = s }) in
+            ap₂ refusedWith (sym (index-only c i k n)) place ∙ back last n
+
+        pub had-answers : (d ≡ never → ⊥) → record { number = 0; place = 0; due = d } ≡ deadlineAnswer c i k
+        unfolding deadlineAnswer deadlineRefusal
+        had-answers n = by-cases (ℕ-discrete (indexCheck c i k .number) 0)
+            (λ q. ap (λ (x : ℕ). record { number = 0; place = 0; due = x }) (due ∙ dated-had sound-chain i k q .0) ∙ answered-fine (deadline c i k) (sym (first-fine (deadlineChecks c i k) (silent-as last q))))
+            (λ q. absurd (n (due ∙ dated-never c i k q)))
+
+-- the next firing's index
 module _ {l f : List ℕ} {i : ℕ} (d : Dated l f i) where
   slot : i < 17
   slot = omega (arith, d .node, d .shown .shows .few)
@@ -96,23 +110,5 @@ module _ {l f : List ℕ} {i : ℕ} (d : Dated l f i) where
     index = omega arith;
   }
 
-  module _ {r : DeadlineAnswer} (g : DueGives l f i (countIn f i + 1) r) where
-    next-index : {c : Chain} {s : Run} → Shown l f c s → countIn f i + 1 ≡ suc (countAt s i)
-    next-index x = omega (arith, x .shows .counts i slot)
-
-    answer : {c : Chain} {s : Run} → Shown l f c s → r ≡ dueOf c i (suc (countAt s i))
-    answer {c} x = g .due x ∙ ap (dueOf c i) (next-index x)
-
-    number : {c : Chain} {s : Run} → Shown l f c s → r .number ≡ indexCheck c i (suc (countAt s i)) .number
-    unfolding dueOf answeredDue
-    number x = ap (λ (b : DeadlineAnswer). b .number) (answer x)
-
-    had : {c : Chain} {s : Run} → Shown l f c s → r .number ≡ 0 → r .due ≡ datedOf c i (suc (countAt s i))
-    unfolding dueOf answeredDue datedOf
-    had x z = ap (λ (b : DeadlineAnswer). b .due) (answer x) ∙ simp (eq-eqb _ _ (sym (number x) ∙ z))
-
-    pub had-gives : r .number ≡ 0 → DatedGives l f i (r .due)
-    had-gives z = record { due = λ x. had x z }
-
-    pub none-gives : (r .number ≡ 0 → ⊥) → DatedGives l f i never
-    none-gives n = record { due = λ {c} {s} x. sym (dated-never c i (suc (countAt s i)) (λ q. n (number x ∙ q))) }
+  pub dated-gives : {r : ℕ} → DueGives l f i (countIn f i + 1) r → DatedGives l f i r
+  dated-gives g = record { due = λ {c} x. g .due x ∙ ap (datedOf c i) (omega (arith, x .shows .counts i slot)) }

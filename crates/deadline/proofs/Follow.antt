@@ -14,24 +14,36 @@ use Rattle.state.specs.declared.Run.{Run}
 use Rattle.flow.specs.Flow.{produceIn, consumeIn}
 use Rattle.deadlines.specs.Deadline.{earlier, deadline, indexCheck, earlier-some}
 use Rattle.deadline.specs.Plan.{capacityIn, periodIn}
-use Rattle.deadline.specs.Question.{answeredDue, refusedWith, dueOf}
-use Rattle.deadline.specs.Dues.{Step, Shown, Dues, DueGives}
-use Rattle.deadline.specs.declared.DeadlineAnswer.{DeadlineAnswer}
+use Rattle.deadline.specs.Question.{never, datedOf}
+use Rattle.deadline.specs.Dues.{Step, Shown, Dues, DueGives, PassingGives}
 
--- the answer at the source, at an index that passes, and at the next node down
+-- the deadline and 13's place at the source, at an index that passes, and at the next node down
 module _ (c : Chain) where
-  at-source : (k : ℕ) → k ≤ limit → record { number = 0; place = 0; due = (k - 1) * c .period } ≡ dueOf c 0 k
-  unfolding dueOf answeredDue indexCheck deadline
-  at-source k l = simp (le-ltb limit k l)
+  due-source : (k : ℕ) → k ≤ limit → (k - 1) * c .period ≡ datedOf c 0 k
+  unfolding datedOf indexCheck deadline
+  due-source k l = simp (le-ltb limit k l)
 
-  at-passing : (i k : ℕ) → limit < k → refusedWith 13 i ≡ dueOf c i k
-  unfolding dueOf answeredDue indexCheck orElse
-  at-passing zero k l = simp (lt-ltb limit k l)
-  at-passing (suc i) k l = simp (lt-ltb limit k l)
+  due-passing : (i k : ℕ) → limit < k → never ≡ datedOf c i k
+  unfolding datedOf indexCheck orElse
+  due-passing zero k l = simp (lt-ltb limit k l)
+  due-passing (suc i) k l = simp (lt-ltb limit k l)
 
-  at-next : (j k : ℕ) → k ≤ limit → dueOf c j (earlier (rowOf c j) k) ≡ dueOf c (suc j) k
-  unfolding dueOf answeredDue indexCheck orElse deadline
-  at-next j k l = simp (le-ltb limit k l)
+  due-next : (j k : ℕ) → k ≤ limit → datedOf c j (earlier (rowOf c j) k) ≡ datedOf c (suc j) k
+  unfolding datedOf indexCheck orElse deadline
+  due-next j k l = simp (le-ltb limit k l)
+
+  place-source : (k : ℕ) → k ≤ limit → 0 ≡ indexCheck c 0 k .place
+  unfolding indexCheck
+  place-source k l = simp (le-ltb limit k l)
+
+  place-passing : (i k : ℕ) → limit < k → i ≡ indexCheck c i k .place
+  unfolding indexCheck orElse
+  place-passing zero k l = simp (lt-ltb limit k l)
+  place-passing (suc i) k l = simp (lt-ltb limit k l)
+
+  place-next : (j k : ℕ) → k ≤ limit → indexCheck c j (earlier (rowOf c j) k) .place ≡ indexCheck c (suc j) k .place
+  unfolding indexCheck orElse
+  place-next j k l = simp (le-ltb limit k l)
 
 -- the index as the code computes it is the one before
 earlier-is : {l f : List ℕ} {c : Chain} {s : Run} → Shown l f c s → (j k : ℕ) → j < c .n → ((k - 1) * consumeIn f j + capacityIn l j) / produceIn f j + 1 ≡ earlier (rowOf c j) k
@@ -39,8 +51,11 @@ unfolding earlier
 earlier-is x j k h = rw (x .shows .takes j h, x .plans .capacities j h, x .shows .puts j h)
 
 module _ {l f : List ℕ} {i k : ℕ} (d : Dues l f i k) (w : k ≤ limit) where
-  pub source-gives : i ≡ 0 → {t : ℕ} → t ≡ (k - 1) * periodIn l → DueGives l f i k (record { number = 0; place = 0; due = t })
-  source-gives z e = record { due = λ {c} x. rw (z, e, x .plans .period) (at-source c k w) }
+  pub source-gives : i ≡ 0 → {t : ℕ} → t ≡ (k - 1) * periodIn l → DueGives l f i k t
+  source-gives z e = record { due = λ {c} x. rw (z, e, x .plans .period) (due-source c k w) }
+
+  pub source-place : i ≡ 0 → PassingGives l f i k 0
+  source-place z = record { place = λ {c} x. rw z (place-source c k w) }
 
   module _ (n : i ≢ 0) where
     -- every chain that is shown has the node
@@ -65,11 +80,17 @@ module _ {l f : List ℕ} {i k : ℕ} (d : Dues l f i k) (w : k ≤ limit) where
       index-is : {c : Chain} {s : Run} → Shown l f c s → m ≡ earlier (rowOf c (i - 1)) k
       index-is x = e ∙ earlier-is x (i - 1) k (below x)
 
-      next : {c : Chain} {s : Run} → Shown l f c s → dueOf c (i - 1) m ≡ dueOf c i k
-      next {c} x = ap (dueOf c (i - 1)) (index-is x) ∙ at-next c (i - 1) k w ∙ ap (λ (a : ℕ). dueOf c a k) up
+      due-down : {c : Chain} {s : Run} → Shown l f c s → datedOf c (i - 1) m ≡ datedOf c i k
+      due-down {c} x = ap (datedOf c (i - 1)) (index-is x) ∙ due-next c (i - 1) k w ∙ ap (λ (a : ℕ). datedOf c a k) up
 
-      pub passing-gives : limit < m → {r : DeadlineAnswer} → r ≡ refusedWith 13 (i - 1) → DueGives l f i k r
-      passing-gives p g = record { due = λ {c} x. g ∙ at-passing c (i - 1) m p ∙ next x }
+      place-down : {c : Chain} {s : Run} → Shown l f c s → indexCheck c (i - 1) m .place ≡ indexCheck c i k .place
+      place-down {c} x = ap (λ (a : ℕ). indexCheck c (i - 1) a .place) (index-is x) ∙ place-next c (i - 1) k w ∙ ap (λ (a : ℕ). indexCheck c a k .place) up
+
+      pub passing-gives : limit < m → DueGives l f i k never
+      passing-gives p = record { due = λ {c} x. due-passing c (i - 1) m p ∙ due-down x }
+
+      pub passing-place : limit < m → PassingGives l f i k (i - 1)
+      passing-place p = record { place = λ {c} x. place-passing c (i - 1) m p ∙ place-down x }
 
       pub next-dues : Dues l f (i - 1) m
       next-dues = record {
@@ -81,5 +102,8 @@ module _ {l f : List ℕ} {i k : ℕ} (d : Dues l f i k) (w : k ≤ limit) where
         index = rw (index-is (d .shown)) (earlier-some (rowOf (d .chain) (i - 1)) k);
       }
 
-      pub next-gives : {r : DeadlineAnswer} → DueGives l f (i - 1) m r → DueGives l f i k r
-      next-gives g = record { due = λ x. g .due x ∙ next x }
+      pub next-gives : {r : ℕ} → DueGives l f (i - 1) m r → DueGives l f i k r
+      next-gives g = record { due = λ x. g .due x ∙ due-down x }
+
+      pub next-place : {r : ℕ} → PassingGives l f (i - 1) m r → PassingGives l f i k r
+      next-place g = record { place = λ x. g .place x ∙ place-down x }

@@ -2,7 +2,8 @@
 --   Step p c b k             one step: the numbers of a queue and an index, in range
 --   Shown l f c s            the plan l and the flow f show the chain c and the state s
 --   Dues l f i k             they show a sound chain, which has a node i; k is an index of its firings
---   DueGives l f i k r       of every chain that they show, r is the deadline of N_i's k-th firing, or 13
+--   DueGives l f i k r       of every chain that they show, r is the deadline of N_i's k-th firing, or never
+--   PassingGives l f i k r   of every chain that they show, r is the place that 13 says of it, 0 where 13 is silent
 --   Dated l f i              and N_i's count can grow
 --   DatedGives l f i r       of every chain and state that they show, r is the deadline of N_i's next firing, or never
 use mathlib.Core.Path.{_≡_}
@@ -15,9 +16,9 @@ use Rattle.sizing.specs.Checks.{limit}
 use Rattle.state.specs.State.{countAt}
 use Rattle.state.specs.declared.Run.{Run}
 use Rattle.flow.specs.Flow.{Shows}
+use Rattle.deadlines.specs.Deadline.{indexCheck}
 use Rattle.deadline.specs.Plan.{Plans}
-use Rattle.deadline.specs.Question.{dueOf, datedOf}
-use Rattle.deadline.specs.declared.DeadlineAnswer.{DeadlineAnswer}
+use Rattle.deadline.specs.Question.{datedOf}
 
 -- the numbers of one step down: p, c and B of the queue, and the index k at the node that it feeds
 pub record Step (p c b k : ℕ) : Type 0 where
@@ -40,9 +41,12 @@ pub record Dues (l f : List ℕ) (i k : ℕ) : Type 0 where
   pub node : i ≤ chain .n
   pub index : 1 ≤ k
 
--- what it gives
-pub record DueGives (l f : List ℕ) (i k : ℕ) (r : DeadlineAnswer) : Type 0 where
-  pub due : {c : Chain} {s : Run} → Shown l f c s → r ≡ dueOf c i k
+-- what it gives, and what the code of 13's place does
+pub record DueGives (l f : List ℕ) (i k r : ℕ) : Type 0 where
+  pub due : {c : Chain} {s : Run} → Shown l f c s → r ≡ datedOf c i k
+
+pub record PassingGives (l f : List ℕ) (i k r : ℕ) : Type 0 where
+  pub place : {c : Chain} {s : Run} → Shown l f c s → r ≡ indexCheck c i k .place
 
 -- what the code of a next firing's deadline asks; that the count is below the limit is said here, since the words of a lent array come with no range
 pub record Dated (l f : List ℕ) (i : ℕ) : Type 0 where

@@ -2,7 +2,6 @@
 --   answeredDue r d            the answer of a question: the refusal r, or the deadline d where r is silent
 --   refusedWith N L            the answer of a question that is refused with number N and place L
 --   answered-refused, -fine    its two cases
---   dueOf c i k                the deadline of N_i's k-th firing, or 13
 --   never, never-word          what stands for a deadline that cannot be had: the largest number of 64 bits
 --   datedOf c i k              the deadline of N_i's k-th firing, or never
 --   askCheck c i k             11: there is no such node, or no such firing
@@ -56,11 +55,6 @@ answered-refused r d h = simp (ne-eqb _ _ h)
 pub answered-fine : {r : Refusal} (d : ℕ) → fine ≡ r → record { number = 0; place = 0; due = d } ≡ answeredDue r d
 unfolding answeredDue
 answered-fine d e = rw (← e)
-
--- "the deadline of N_i's k-th firing", or 13, "a deadline index passes 4,294,967,295"
-unfoldable pub dueOf : Chain → ℕ → ℕ → DeadlineAnswer
-unfolding answeredDue indexCheck deadline
-dueOf c i k = answeredDue (indexCheck c i k) (deadline c i k)
 
 -- what stands for a deadline that can't be had
 abbrev pub never : ℕ

@@ -1,11 +1,11 @@
-// Deadline questions: when a firing of a node is due. The index is followed down to the source, a queue at a time, by a
-// function that calls itself for the node before.
+// Deadline questions: when a firing of a node is due. The index is followed down to the source, a queue at a time, by
+// functions that call themselves for the node before.
 ghost use mathlib.Core.Path.{_≡_};
 ghost use Prim.Native.Nat.{_+_, _-_, _*_, _/_, _≤_};
 ghost use Rattle.state.specs.Checks.{Analysed};
 ghost use Rattle.deadline.specs.Plan.{Plans};
 ghost use Rattle.deadline.specs.Question.{refusedWith, deadlineAnswer};
-ghost use Rattle.deadline.specs.Dues.{Step, Dues, DueGives, Dated, DatedGives};
+ghost use Rattle.deadline.specs.Dues.{Step, Dues, DueGives, PassingGives, Dated, DatedGives};
 use chain::Chain;
 use flow::CONSUME;
 use flow::COUNTS;
@@ -51,7 +51,16 @@ pub fn deadline(chain: Chain, node: u32, index: u32) -> DeadlineAnswer
     }
     let flow = flow::started(chain);
     let plan = planned(chain, sized.analysis);
-    due(&plan, &flow, node as usize, index)
+    let i = node as usize;
+    let ticks = due(&plan, &flow, i, index);
+    if ticks == NEVER {
+        return refused(13, passing(&plan, &flow, i, index));
+    }
+    DeadlineAnswer {
+        number: 0,
+        place: 0,
+        due: ticks,
+    }
 }
 
 // The plan of a chain, whose capacities in force its analysis has.
@@ -76,34 +85,39 @@ pub fn dated(plan: &[u32; PLAN], flow: &[u32; LENGTH], i: usize) -> u64
     requires { ⌜ Dated (now plan) (now flow) i ⌝ }
     ensures { λ r. ⌜ DatedGives (now (plan .entry)) (now (flow .entry)) i r ⌝ }
 {
-    let k = flow[COUNTS + i] + 1;
-    let answer = due(plan, flow, i, k);
-    if answer.number == 0 {
-        answer.due
-    } else {
-        NEVER
-    }
+    due(plan, flow, i, flow[COUNTS + i] + 1)
 }
 
-// The deadline of node i's k-th firing, or 13 where an index on the way down to the source passes the limit.
-pub fn due(plan: &[u32; PLAN], flow: &[u32; LENGTH], i: usize, k: u32) -> DeadlineAnswer
+// The deadline of node i's k-th firing, or NEVER where an index on the way down to the source passes the limit.
+pub fn due(plan: &[u32; PLAN], flow: &[u32; LENGTH], i: usize, k: u32) -> u64
     requires { ⌜ Dues (now plan) (now flow) i k ⌝ }
     ensures { λ r. ⌜ DueGives (now (plan .entry)) (now (flow .entry)) i k r ⌝ }
 {
     if i == 0 {
-        let ticks = at_source(plan[PERIOD], k);
-        return DeadlineAnswer {
-            number: 0,
-            place: 0,
-            due: ticks,
-        };
+        return at_source(plan[PERIOD], k);
     }
     let j = i - 1;
-    let earlier = index_before(flow[PRODUCE + j], flow[CONSUME + j], plan[CAPACITY + j], k);
-    if LIMIT < earlier {
-        return refused(13, j as u32);
+    let before = index_before(flow[PRODUCE + j], flow[CONSUME + j], plan[CAPACITY + j], k);
+    if LIMIT < before {
+        return NEVER;
     }
-    due(plan, flow, j, earlier as u32)
+    due(plan, flow, j, before as u32)
+}
+
+// The first node on the way down from node i's index k whose index passes the limit, or 0 where none does.
+fn passing(plan: &[u32; PLAN], flow: &[u32; LENGTH], i: usize, k: u32) -> u32
+    requires { ⌜ Dues (now plan) (now flow) i k ⌝ }
+    ensures { λ r. ⌜ PassingGives (now (plan .entry)) (now (flow .entry)) i k r ⌝ }
+{
+    if i == 0 {
+        return 0;
+    }
+    let j = i - 1;
+    let before = index_before(flow[PRODUCE + j], flow[CONSUME + j], plan[CAPACITY + j], k);
+    if before <= LIMIT {
+        return passing(plan, flow, j, before as u32);
+    }
+    j as u32
 }
 
 // The index at the node before a queue of these numbers, for index k at the node that it feeds.

@@ -17,7 +17,7 @@ use lib.Seq.{getD-set-same, getD-set-other}
 use Rattle.words.specs.Table.{is-tab}
 use Rattle.chain.specs.declared.Chain.{Chain}
 use Rattle.sizing.specs.Checks.{limit}
-use Rattle.state.specs.State.{countAt, heldAt, freshRun, same-run}
+use Rattle.state.specs.State.{countAt, heldAt, same-run}
 use Rattle.state.specs.declared.Run.{Run}
 use Rattle.flow.specs.Flow.{countIn, heldIn, Shows}
 use Rattle.flow.specs.Shown.{shown}

@@ -1,7 +1,7 @@
 -- The answer of an immediate run, as its code puts it together.
 use mathlib.Core.Path.{_≡_, sym, ap, _∙_}
 use Prim.Native.Nat.{ℕ}
-use Rattle.chain.specs.Refusals.{refused, first-fine, Silent, silent-as, or-left, or-right}
+use Rattle.chain.specs.Refusals.{first-fine, Silent, silent-as, or-left, or-right}
 use Rattle.chain.specs.Sound.{Sound}
 use Rattle.chain.specs.declared.Refusal.{Refusal}
 use Rattle.chain.specs.declared.Chain.{Chain}

@@ -11,7 +11,7 @@
 --   outcomeOf r s t            the answer of a call: the refusal r with the state s, or what t leaves where r is silent
 --   tickAnswer c s             the whole answer of a tick: the state as it was, or what the tick leaves
 --   deadlineRunAnswer c T      the whole answer of a deadline run: an empty state, or what the run leaves
-use mathlib.Core.Bool.{Bool, cond}
+use mathlib.Core.Bool.{cond}
 use mathlib.Core.List.{List, [], _∷_, _++_}
 use Prim.Native.Nat.{ℕ, suc}
 use lib.Dec.{eqb, ltb, leb}
@@ -23,8 +23,7 @@ use Rattle.sizing.specs.Checks.{limit, runChecks, runRefusal}
 use Rattle.state.specs.State.{countAt, emptyRun, freshRun}
 use Rattle.state.specs.Checks.{stateCheck}
 use Rattle.state.specs.declared.Run.{Run}
-use Rattle.instants.specs.Steps.{clean, tick, instants}
-use Rattle.instants.specs.declared.Outcome.{Outcome}
+use Rattle.instants.specs.Steps.{tick, instants}
 use Rattle.instants.specs.declared.Outcome.the-variants.{Clean}
 use Rattle.instants.specs.declared.Ticked.{Ticked}
 use Rattle.instants.specs.declared.TickAnswer.{TickAnswer}

@@ -2,12 +2,10 @@
 use mathlib.Core.Path.{_≡_, refl}
 use mathlib.Core.List.{List, [], _∷_}
 use Prim.Native.Nat.{ℕ}
-use lib.ListN.{getD}
-use Rattle.words.specs.declared.Queue.{Queue}
 use Rattle.chain.specs.Factory.{factoryAnswer}
 use Rattle.chain.specs.declared.Chain.{Chain}
 use Rattle.state.specs.State.{freshRun, countAt, heldAt}
-use Rattle.instants.specs.Steps.{instants, numberOf, valuesOf, goes}
+use Rattle.instants.specs.Steps.{instants, numberOf, valuesOf}
 use Rattle.instants.specs.declared.Ticked.{Ticked}
 
 abbrev pub feed : Chain

@@ -5,17 +5,13 @@
 --   Paced c s                  a state that passes 17, in which no node has fired more often than the clock has ticked
 --   fresh-paced, tick-paced    a fresh start is one, and a clean tick leaves one
 --   paced-countable            then every count can grow
-use mathlib.Core.Path.{_≡_, refl, sym, ap, _∙_}
-use mathlib.Core.Logic.{_≢_}
-use Prim.Native.Nat.{ℕ, suc, _+_, _*_, _≤_, _<_}
+use mathlib.Core.Path.{_≡_, refl, ap, _∙_}
+use Prim.Native.Nat.{ℕ, suc, _≤_, _<_}
 use native.Mathlib.Omega.{arith}
-use Rattle.chain.specs.Record.{rowOf, workOf}
+use Rattle.chain.specs.Record.{workOf}
 use Rattle.chain.specs.declared.Chain.{Chain}
-use Rattle.sizing.specs.Sizes.{start, capacityOf}
-use Rattle.sizing.specs.Checks.{limit}
 use Rattle.sizing.specs.Accepted.{Accepted}
-use Rattle.state.specs.State.{countAt, heldAt, doneAt, freshRun, fresh-empty, zeros, fresh-count, fresh-held}
-use Rattle.state.specs.Fired.{Balance}
+use Rattle.state.specs.State.{countAt, doneAt, freshRun, fresh-empty, zeros, fresh-count, fresh-held}
 use Rattle.state.specs.declared.Run.{Run}
 use Rattle.past.specs.Runs.{Whole}
 use Rattle.instants.specs.Checks.{longest}
@@ -63,7 +59,7 @@ fresh-paced {c} a = record { running = fresh-running a; counts = λ i l. omega (
 pub paced-countable : {c : Chain} {s : Run} → Paced c s → s .clock ≤ longest → Countable c s
 paced-countable p l i h e = omega (arith, p .counts i h)
 
-pub tick-paced : {c : Chain} {s : Run} → Paced c s → s .clock ≤ longest → tick c s .outcome ≡ Clean → Paced c (tick c s .run)
-tick-paced {c} {s} p l h =
-    let t : TickStep c s (tick c s .run) = tick-step (p .running) (paced-countable p l) h in
+pub tick-paced : {c : Chain} {s : Run} → Paced c s → tick c s .outcome ≡ Clean → Paced c (tick c s .run)
+tick-paced {c} {s} p h =
+    let t : TickStep c s (tick c s .run) = tick-step (p .running) h in
     record { running = t .running; counts = λ i f. omega (arith, t .counts i f, p .counts i f, t .clock) }

@@ -8,16 +8,16 @@
 --   worked-…                   one tick of work
 use mathlib.Core.Path.{_≡_, refl, sym, ap, subst, _∙_}
 use mathlib.Core.Logic.{_≢_, by-cases}
-use mathlib.Core.Bool.{Bool, true, false, cond, _&&_, not}
+use mathlib.Core.Bool.{Bool, true, false, cond}
 use mathlib.Core.List.{List}
-use Prim.Native.Nat.{ℕ, zero, suc, _+_, _*_, _≤_, _<_}
+use Prim.Native.Nat.{ℕ, zero, suc, _+_, _≤_, _<_}
 use native.Mathlib.Nat.{le-refl, le-step}
-use native.Mathlib.Decide.{ℕ-discrete, decLe, decLt}
+use native.Mathlib.Decide.{ℕ-discrete}
 use native.Mathlib.Omega.{arith}
-use lib.Dec.{eqb, leb}
-use lib.ListN.{length, getD, set, length-set}
+use lib.Dec.{eqb}
+use lib.ListN.{length, getD, length-set}
 use lib.Seq.{getD-set-same, getD-set-other}
-use borrow.Author.Tests.{eq-eqb, ne-eqb, eqb-true, leb-true, le-leb, lt-leb}
+use borrow.Author.Tests.{eqb-true, le-leb, lt-leb}
 use Rattle.chain.specs.Refusals.{Silent, test}
 use Rattle.chain.specs.Record.{rowOf, workOf}
 use Rattle.chain.specs.Sound.{Sound}
@@ -25,14 +25,14 @@ use Rattle.chain.specs.declared.Chain.{Chain}
 use Rattle.sizing.specs.Sizes.{capacityOf}
 use Rattle.sizing.specs.Checks.{limit}
 use Rattle.sizing.specs.Accepted.{Accepted}
-use Rattle.state.specs.State.{countAt, heldAt, doneAt, freshRun}
-use Rattle.state.specs.Fired.{fired, Over, Room, May, Balance, Slots, over-enough, count-fired, count-other, held-output, held-input, held-other, held-sink, counts-length, holds-length, balance-kept}
+use Rattle.state.specs.State.{countAt, heldAt, doneAt}
+use Rattle.state.specs.Fired.{fired, Over, Room, May, Slots, over-enough, count-fired, count-other, held-output, held-input, held-other, counts-length, holds-length, balance-kept}
 use Rattle.state.specs.Checks.{over, over-true, cramped, StateSound, room-silent}
-use Rattle.state.specs.Fire.{Firing}
 use Rattle.state.specs.declared.Run.{Run}
 use Rattle.past.specs.Runs.{Whole}
+use Rattle.instants.specs.Best.{chosen-best}
 use Rattle.instants.specs.Runs.{onward-then}
-use Rattle.instants.specs.Steps.{kindOf, clean, overflowed, undated, onward, goes, divides, sourced, lacking, begun, choose, chosen, worked, endedIn, ended, finish, finished, advanced, tick, withClock, withDone, asEarly}
+use Rattle.instants.specs.Steps.{kindOf, clean, overflowed, undated, onward, goes, divides, sourced, lacking, begun, chosen, worked, endedIn, finish, finished, advanced, tick, withDone}
 use Rattle.instants.specs.declared.Outcome.{Outcome}
 use Rattle.instants.specs.declared.Outcome.the-variants.{Clean, Overflowed, NoDeadline}
 use Rattle.instants.specs.declared.Ticked.{Ticked}
@@ -47,17 +47,17 @@ pub running-slots : {c : Chain} {s : Run} → Running c s → Slots (c .n) s
 running-slots r = record { counts = omega (arith, r .whole .counts, r .chain .chain .count .1); held = omega (arith, r .whole .held, r .chain .chain .count .1) }
 
 -- a firing of a node leaves no queue with a reason of 17
-module _ {c : Chain} {s : Run} (r : Running c s) {i : ℕ} (m : May c s i) where
+module _ {c : Chain} {s : Run} (r : Running c s) (i : ℕ) (o : Over c s i) (m : Room c s i) where
   sound : Sound c
   sound = r .chain .chain
 
   -- a firing finds what it takes
   enough : (j : ℕ) → j < c .n → i ≡ suc j → rowOf c j .consume ≤ heldAt s j
-  enough j l e = over-enough sound s j l (subst (Over c s) e (m .over))
+  enough j l e = over-enough sound s j l (subst (Over c s) e o)
 
   filled : (j : ℕ) → j < c .n → heldAt (fired c s i) j ≤ capacityOf (rowOf c j)
   filled j l = by-cases (ℕ-discrete j i)
-      (λ e. rw (e, held-output c s i (omega arith) (omega (arith, r .whole .held, sound .count .1))) (m .room (omega arith)))
+      (λ e. rw (e, held-output c s i (omega arith) (omega (arith, r .whole .held, sound .count .1))) (m (omega arith)))
       (λ ne. by-cases (ℕ-discrete (suc j) i)
       (λ e. omega (arith, subst (λ (k : ℕ). heldAt (fired c s k) j + rowOf c j .consume ≡ heldAt s j) e (held-input c s j (omega (arith, r .whole .held, sound .count .1)) (enough j l (sym e))), r .state j l .0 .1))
       (λ ne′. rw (held-other c s i j ne ne′) (r .state j l .0 .1)))
@@ -97,25 +97,25 @@ module _ {c : Chain} {s : Run} (r : Running c s) where
   source-rests : SourceStep c s s
   source-rests = record { running = r; clock = refl; done = refl; source = omega arith; others = λ i l. refl }
 
-  source-fires : May c s 0 → SourceStep c s (fired c s 0)
+  source-fires : Room c s 0 → SourceStep c s (fired c s 0)
   unfolding fired
   source-fires m = record {
-    running = fired-running r m;
+    running = fired-running r 0 tt m;
     clock = refl;
     done = refl;
     source = omega (arith, count-fired c s 0 (omega (arith, r .whole .counts)));
     others = λ i l. count-other c s 0 i (λ e. omega arith);
   }
 
-  pub sourced-clean : countAt s 0 ≢ limit → sourced c s .outcome ≡ Clean → SourceStep c s (sourced c s .run)
+  pub sourced-clean : sourced c s .outcome ≡ Clean → SourceStep c s (sourced c s .run)
   unfolding sourced
-  sourced-clean n = by (divides (c .period) (s .clock)) (cramped c s 0) refl
+  sourced-clean = by (divides (c .period) (s .clock)) (cramped c s 0) refl
     where
       by : (d x : Bool) → cramped c s 0 ≡ x
           → (cond d (cond x (overflowed s (s .clock) 0) (clean (fired c s 0))) (clean s)) .outcome ≡ Clean
           → SourceStep c s ((cond d (cond x (overflowed s (s .clock) 0) (clean (fired c s 0))) (clean s)) .run)
       by true true e h = absurd (unclean-overflow h)
-      by true false e h = source-fires (source-may n e)
+      by true false e h = source-fires (room-of c s 0 e)
       by false x e h = source-rests
 
 -- what goes on was clean
@@ -145,35 +145,13 @@ begun-clean c s h =
     by true e h = (eqb-true _ _ e, refl)
     by false e h = absurd (unclean-undated h)
 
--- the node that works is a node of the chain
-choose-low : (due : ℕ → ℕ) (able : ℕ → Bool) (n : ℕ) → choose due able n ≤ n
-unfolding choose
-choose-low due able zero = omega arith
-choose-low due able (suc n) = by (able (suc n) && asEarly due (suc n) (choose due able n)) (choose-low due able n)
-  where
-    by : (b : Bool) → choose due able n ≤ n → cond b (suc n) (choose due able n) ≤ suc n
-    by true l = le-refl (suc n)
-    by false l = le-step l
-
--- and over threshold
-choose-able : (due : ℕ → ℕ) (able : ℕ → Bool) (n j : ℕ) → choose due able n ≡ suc j → able (suc j) ≡ true
-unfolding choose
-choose-able due able zero j e = absurd (omega arith)
-choose-able due able (suc n) j h = by (able (suc n)) (asEarly due (suc n) (choose due able n)) refl (choose-able due able n j) h
-  where
-    by : (a b : Bool) → able (suc n) ≡ a → (choose due able n ≡ suc j → able (suc j) ≡ true) → cond (a && b) (suc n) (choose due able n) ≡ suc j → able (suc j) ≡ true
-    by true true e before h = subst (λ (m : ℕ). able m ≡ true) h e
-    by true false e before h = before h
-    by false b e before h = before h
-
 module _ (c : Chain) (s : Run) where
+  -- the node that works is a node of the chain, and over threshold
   pub chosen-low : chosen c s ≤ c .n
-  unfolding chosen
-  chosen-low = choose-low _ (over c s) (c .n)
+  chosen-low = chosen-best c s .low
 
   pub chosen-over : (j : ℕ) → chosen c s ≡ suc j → Over c s (suc j)
-  unfolding chosen
-  chosen-over j e = over-true c s (suc j) .0 (choose-able _ (over c s) (c .n) j e)
+  chosen-over j e = over-true c s (suc j) .0 (subst (λ (i : ℕ). over c s i ≡ true) e (chosen-best c s .able-it (omega arith)))
 
 -- which node's work is done
 module _ (c : Chain) (s : Run) where
@@ -231,6 +209,15 @@ running-as {c} {u} {w} r counts held deep below = record {
     at : {a b : List ℕ} → a ≡ b → (j : ℕ) → getD a j 0 ≡ getD b j 0
     at e j = ap (λ (x : List ℕ). getD x j 0) e
 
+-- what a firing takes was there when its node was chosen, and its production fits where it did after the work
+finish-over : (c : Chain) (u : Run) (j : ℕ) → Over c u (suc j) → Over c (withDone (worked u (suc j)) j 0) (suc j)
+unfolding worked
+finish-over c u j o = o
+
+finish-room : (c : Chain) (u : Run) (j : ℕ) → cramped c (worked u (suc j)) (suc j) ≡ false → Room c (withDone (worked u (suc j)) j 0) (suc j)
+unfolding cramped worked
+finish-room c u j e = room-of c (withDone (worked u (suc j)) j 0) (suc j) e
+
 module _ {c : Chain} {u : Run} (r : Running c u) where
   below-else : (i j : ℕ) → j < c .n → i ≢ suc j → doneAt (worked u i) j < workOf c j
   below-else i j l ne = rw (worked-other u i j ne) (r .state j l .1)
@@ -264,10 +251,10 @@ module _ {c : Chain} {u : Run} (r : Running c u) where
             (λ e. rw (e, getD-set-same (worked u (suc j) .done) j 0 0 (omega (arith, worked-deep u (suc j), r .whole .done, r .chain .chain .count .1))) (r .chain .chain .work j l .0))
             (λ ne. rw (getD-set-other (worked u (suc j) .done) j k 0 0 ne) (below-else (suc j) k m (λ e. ne (omega arith))))
 
-    -- its node may fire, since what it takes was there when it was chosen
+    -- its node may fire where its count can grow and its production fits
     pub finish-may : Over c u (suc j) → countAt u (suc j) ≢ limit → cramped c (worked u (suc j)) (suc j) ≡ false → May c (withDone (worked u (suc j)) j 0) (suc j)
-    unfolding cramped worked
-    finish-may o n e = record { node = l; countable = n; over = o; room = room-of c (withDone (worked u (suc j)) j 0) (suc j) e }
+    unfolding worked
+    finish-may o n e = record { node = l; countable = n; over = o; room = finish-room c u j e }
 
 -- the source's step and 13, and then the work of the node chosen and its effect
 pub tick-parts : (c : Chain) (s : Run) → tick c s ≡ onward (begun c s) (λ u. finished c (worked u (chosen c u)))
@@ -290,7 +277,7 @@ abbrev pub Countable : Chain → Run → Type 0
 Countable c s = (i : ℕ) → i ≤ c .n → countAt s i ≢ limit
 
 -- the effect of a firing then finished
-module _ {c : Chain} {s u : Run} (k : SourceStep c s u) (some : Countable c s) where
+module _ {c : Chain} {s u : Run} (k : SourceStep c s u) where
   -- counts that were not changed since the source's step
   unchanged : (w : Run) → w .counts ≡ u .counts → (i : ℕ) → countAt w i ≤ suc (countAt s i)
   unchanged w e zero = omega (arith, ap (λ (l : List ℕ). getD l 0 0) e, k .source)
@@ -309,11 +296,11 @@ module _ {c : Chain} {s u : Run} (k : SourceStep c s u) (some : Countable c s) w
         let v : Run = withDone (worked u (suc j)) j 0 in
         let other : countAt u (suc j) ≡ countAt s (suc j) = k .others (suc j) (omega arith) in
         let r : Running c v = cleared-running (k .running) j l all in
-        let m : May c v (suc j) = finish-may (k .running) j l all o (rw other (some (suc j) l)) e in
+        let room : Room c v (suc j) = finish-room c u j e in
         let once : countAt (fired c v (suc j)) (suc j) ≡ countAt v (suc j) + 1 = count-fired c v (suc j) (omega (arith, r .whole .counts, r .chain .chain .count .1)) in
         let same : countAt v (suc j) ≡ countAt u (suc j) = ap (λ (x : List ℕ). getD x (suc j) 0) (worked-counts u (suc j)) in
         record {
-          running = fired-running r m;
+          running = fired-running r (suc j) (finish-over c u j o) room;
           clock = fired-clock c v (suc j) ∙ worked-clock u (suc j) ∙ ap (λ (t : ℕ). t + 1) (k .clock);
           counts = λ i f. by-cases (ℕ-discrete i (suc j))
               (λ e. rw e (omega (arith, once, same, other)))
@@ -338,7 +325,7 @@ module _ {c : Chain} {s u : Run} (k : SourceStep c s u) (some : Countable c s) w
       let on : finished c (worked u (suc j)) ≡ clean (worked u (suc j)) = works-on (k .running) (suc j) less in
       subst (λ (x : Ticked). TickStep c s (x .run)) (sym on) (rests (suc j) (works-running (k .running) (suc j) less)))
 
-module _ {c : Chain} {s : Run} (r : Running c s) (some : Countable c s) where
+module _ {c : Chain} {s : Run} (r : Running c s) where
   -- a clean tick leaves a state that passes 17
   pub tick-step : tick c s .outcome ≡ Clean → TickStep c s (tick c s .run)
   tick-step h =
@@ -346,6 +333,6 @@ module _ {c : Chain} {s : Run} (r : Running c s) (some : Countable c s) where
       let b = begun-clean c s (o .0) in
       let u : Run = sourced c s .run in
       let f : tick c s ≡ finished c (worked u (chosen c u)) = tick-parts c s ∙ o .1 .1 ∙ ap (λ (x : Ticked). finished c (worked (x .run) (chosen c (x .run)))) (b .1 .1) in
-      let step : SourceStep c s u = sourced-clean r (some 0 (omega arith)) (b .0) in
+      let step : SourceStep c s u = sourced-clean r (b .0) in
       subst (λ (x : Ticked). TickStep c s (x .run)) (sym f)
-      (works-step step some (chosen c u) (chosen-low c u) (chosen-over c u) (ap (λ (x : Ticked). x .outcome) (sym f) ∙ h))
+      (works-step step (chosen c u) (chosen-low c u) (chosen-over c u) (ap (λ (x : Ticked). x .outcome) (sym f) ∙ h))

@@ -1,7 +1,9 @@
 pub mod Steps
 pub mod Checks
 pub mod Refusals
+pub mod Best
 pub mod Runs
 pub mod Kept
 pub mod Fresh
+pub mod Spill
 pub mod Figures

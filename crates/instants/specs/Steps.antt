@@ -23,14 +23,14 @@
 --   ticks c T s                so many of them, as far as they are clean
 --   instants c T s             01's instants, T of them before the last
 use mathlib.Core.Path.{_≡_, refl}
-use mathlib.Core.Bool.{Bool, true, false, cond, _&&_, not}
+use mathlib.Core.Bool.{Bool, true, cond, _&&_, not}
 use mathlib.Core.List.{List, [], _∷_}
 use Prim.Native.Nat.{ℕ, zero, suc, _+_, _%_}
 use lib.Dec.{eqb, leb}
 use lib.ListN.{set}
 use Rattle.words.specs.Table.{tab}
 use Rattle.chain.specs.Refusals.{test, first}
-use Rattle.chain.specs.Record.{rowOf, workOf}
+use Rattle.chain.specs.Record.{workOf}
 use Rattle.chain.specs.declared.Refusal.{Refusal}
 use Rattle.chain.specs.declared.Chain.{Chain}
 use Rattle.state.specs.State.{countAt, doneAt}

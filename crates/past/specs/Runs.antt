@@ -3,7 +3,9 @@
 --   KeptPast n s t           t has s's slots past n
 --   Whole s                  a state of 17 counts and 16 queues, as every state of the product is
 --   fresh-alike              chains that differ in slots past n only have the same fresh start
---   fire-alike               such chains and states refuse a firing alike
+--   state-, over-, cramped-alike
+--                            17, whether a node may fire and whether its production does not fit are the same of such chains and states
+--   fire-alike               which refuse a firing alike
 --   past-n                   and give states that differ in slots past n only
 --   past-kept                each of which has its own slots past n as they were
 --   whole-kept, fresh-whole  a firing keeps the number of slots, and a fresh start has it
@@ -67,7 +69,7 @@ fresh-alike {c} {d} a = ap₂ (λ (r : Refusal) (t : Run). answered r emptyRun t
 
 module _ {c d : Chain} (a : AlikeChains c d) {s t : Run} (r : AlikeRuns (c .n) s t) where
   -- 17 of every queue
-  state-alike : stateCheck c s ≡ stateCheck d t
+  pub state-alike : stateCheck c s ≡ stateCheck d t
   unfolding stateCheck
   state-alike = ap first (tab-alike (c .n) (stateTest c s) (stateTest d t) each ∙ ap (λ (k : ℕ). tab k (stateTest d t)) (a .n))
     where
@@ -81,7 +83,7 @@ module _ {c d : Chain} (a : AlikeChains c d) {s t : Run} (r : AlikeRuns (c .n) s
       ∙ ap (λ (n : ℕ). leb i n && eqb (countAt t i) limit) (a .n)
 
   -- whether a node that there is may fire
-  over-alike : (i : ℕ) → i ≤ c .n → over c s i ≡ over d t i
+  pub over-alike : (i : ℕ) → i ≤ c .n → over c s i ≡ over d t i
   over-alike zero l = refl
   over-alike (suc j) l = λ k. leb (a .rows j l k .threshold) (r .held j l k)
 
@@ -92,7 +94,7 @@ module _ {c d : Chain} (a : AlikeChains c d) {s t : Run} (r : AlikeRuns (c .n) s
       ∙ ap (λ (n : ℕ). ltb n i || not (over d t i)) (a .n)
 
   -- 12: an output queue that there is, with no room
-  cramped-alike : (i : ℕ) → cramped c s i ≡ cramped d t i
+  pub cramped-alike : (i : ℕ) → cramped c s i ≡ cramped d t i
   unfolding cramped
   cramped-alike i =
       and-alike (ltb i (c .n)) _ _ (λ e. let l : i < c .n = ltb-true _ _ e in λ k. ltb (capacityOf (a .rows i l k)) (r .held i l k + a .rows i l k .produce))

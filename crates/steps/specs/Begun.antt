@@ -8,7 +8,7 @@ use mathlib.Core.Path.{_≡_, refl, sym, ap, subst, _∙_}
 use mathlib.Core.Logic.{_≢_, by-cases}
 use mathlib.Core.Bool.{Bool, true, false, cond, not, _&&_}
 use mathlib.Core.List.{List}
-use Prim.Native.Nat.{ℕ, zero, suc, _+_, _≤_, _<_}
+use Prim.Native.Nat.{ℕ, suc, _+_, _≤_, _<_}
 use native.Mathlib.Decide.{ℕ-discrete}
 use native.Mathlib.Omega.{arith}
 use lib.Dec.{eqb}
@@ -22,14 +22,14 @@ use Rattle.state.specs.State.{countAt, heldAt}
 use Rattle.state.specs.Fired.{fired, count-fired, held-other}
 use Rattle.state.specs.Checks.{over, cramped}
 use Rattle.state.specs.declared.Run.{Run}
-use Rattle.flow.specs.Flow.{countIn, heldIn, sizeIn, Shows}
+use Rattle.flow.specs.Flow.{countIn, heldIn, Shows}
 use Rattle.deadlines.specs.Deadline.{indexCheck}
 use Rattle.instants.specs.Steps.{next, clean, overflowed, undated, goes, onward, divides, sourced, lackingTest, lacking, chosen, begun}
-use Rattle.instants.specs.Kept.{Running, Countable, SourceStep, sourced-clean, chosen-low, unclean-overflow}
+use Rattle.instants.specs.Kept.{Running, SourceStep, sourced-clean, chosen-low, unclean-overflow}
 use Rattle.instants.specs.declared.Outcome.{Outcome}
 use Rattle.instants.specs.declared.Outcome.the-variants.{Clean, Overflowed, NoDeadline}
 use Rattle.instants.specs.declared.Ticked.{Ticked}
-use Rattle.steps.specs.Lent.{Stands, Sources, SourcedTo, SourcedGives, Keeps, Looks, lackOf, LackingGives, ChosenGives, outcomeAs, Known, BegunTo, BegunGives}
+use Rattle.steps.specs.Lent.{Stands, Sources, SourcedTo, SourcedGives, Keeps, Looks, lackOf, LackingGives, ChosenGives, outcomeAs, BegunTo, BegunGives}
 use Rattle.steps.specs.declared.Start.{Start}
 
 -- what the source's step leaves where it is clean: its queue apart, the contents are as they were, and a count that has not grown tells that it has not fired
@@ -99,7 +99,7 @@ begun-to {c} {s} {t} {g} {r} e o h n low = record {
 -- what the source put in is taken back
 restored : {l f g : List ℕ} {c : Chain} {s : Run} → Stands l f c s → sourced c s .outcome ≡ Clean → Shows g c (sourced c s .run) → Shows (set (set g 48 (countIn f 0)) 65 (heldIn f 0)) c s
 restored {l} {f} {g} {c} {s} x h y =
-    let u : SourceStep c s (sourced c s .run) = sourced-clean (x .running) (λ e. omega (arith, x .counts 0 (omega arith), e)) h in
+    let u : SourceStep c s (sourced c s .run) = sourced-clean (x .running) h in
     let one : List ℕ = set g 48 (countIn f 0) in
     let other : (p : ℕ) → p ≢ 48 → p ≢ 65 → getD (set one 65 (heldIn f 0)) p 0 ≡ getD g p 0 = λ p a b. getD-set-other one 65 p _ 0 b ∙ getD-set-other g 48 p _ 0 a in
     record {

@@ -3,24 +3,23 @@
 --   dued-none, -taken, -left, -end
 --                            at the start, with node j+1's deadline wanted and not wanted, and at the end
 --   dued-size, dued-dated    the number of queues, and what the deadline of N_(j+1) asks
-use mathlib.Core.Path.{_≡_, refl, sym, ap, subst, _∙_}
+use mathlib.Core.Path.{_≡_, sym, ap, subst, _∙_}
 use mathlib.Core.Logic.{_≢_, ⊎-elim, Iff·rfl}
-use mathlib.Core.Bool.{Bool, true, false, cond, _||_}
+use mathlib.Core.Bool.{Bool, false, cond, _||_}
 use mathlib.Core.List.{List}
 use Prim.Native.Nat.{ℕ, suc, _+_, _≤_, _<_}
 use native.Mathlib.Nat.{eq-or-lt-of-le}
 use native.Mathlib.Numerals.{add-one}
 use native.Mathlib.Omega.{arith}
 use lib.Dec.{eqb, leb}
-use lib.ListN.{length, getD, set, replicate, length-set, length-replicate}
+use lib.ListN.{length, set, replicate, length-set, length-replicate}
 use lib.Seq.{getD-set-same, getD-set-other}
 use borrow.Author.Tests.{eqb-false, ne-eqb}
 use Rattle.chain.specs.Tests.{or-false, upto-false}
 use Rattle.chain.specs.declared.Chain.{Chain}
-use Rattle.state.specs.State.{heldAt}
 use Rattle.state.specs.Fired.{Over}
 use Rattle.state.specs.declared.Run.{Run}
-use Rattle.flow.specs.Flow.{thresholdIn, heldIn, sizeIn, Shows}
+use Rattle.flow.specs.Flow.{thresholdIn, heldIn, sizeIn}
 use Rattle.deadline.specs.Question.{datedOf}
 use Rattle.deadline.specs.Dues.{Dated, DatedGives}
 use Rattle.instants.specs.Steps.{next}

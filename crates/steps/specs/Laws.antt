@@ -11,16 +11,13 @@ use mathlib.Core.List.{List}
 use Prim.Native.Nat.{ℕ, zero, suc, _+_, _-_, _%_, _≤_, _<_, _^_}
 use native.Mathlib.Decide.{decLt}
 use native.Mathlib.Omega.{arith}
-use lib.Dec.{eqb, ltb, leb}
+use lib.Dec.{ltb, leb}
 use lib.ListN.{length, getD, set}
 use borrow.Author.Tests.{eq-eqb, ne-eqb, lt-ltb, le-ltb}
 use Rattle.chain.specs.Record.{rowOf}
-use Rattle.chain.specs.Sound.{Sound}
 use Rattle.chain.specs.declared.Chain.{Chain}
 use Rattle.sizing.specs.Sizes.{capacityOf, capacity-most}
-use Rattle.sizing.specs.Checks.{limit}
-use Rattle.state.specs.State.{countAt, heldAt, doneAt}
-use Rattle.state.specs.Fired.{fired, May}
+use Rattle.state.specs.Fired.{fired}
 use Rattle.state.specs.Checks.{cramped}
 use Rattle.state.specs.Fire.{Firing}
 use Rattle.state.specs.declared.Run.{Run}

@@ -16,7 +16,7 @@
 --   Known c s i              i is the node that works, or stale
 --   BegunTo, BegunGives      what the source's step, 13 and the choice make together, of one state and of every state that is shown
 use mathlib.Core.Path.{_≡_}
-use mathlib.Core.Bool.{Bool, true, false, cond, _&&_}
+use mathlib.Core.Bool.{Bool, false, cond, _&&_}
 use mathlib.Core.List.{List}
 use Prim.Native.Nat.{ℕ, zero, suc, _+_, _≤_, _<_}
 use lib.Dec.{eqb, ltb, leb}
@@ -27,7 +27,7 @@ use Rattle.chain.specs.Sound.{Sound}
 use Rattle.chain.specs.declared.Refusal.{Refusal}
 use Rattle.chain.specs.declared.Chain.{Chain}
 use Rattle.sizing.specs.Checks.{limit}
-use Rattle.state.specs.State.{countAt, heldAt, doneAt}
+use Rattle.state.specs.State.{countAt, doneAt}
 use Rattle.state.specs.Fired.{Over}
 use Rattle.state.specs.declared.Run.{Run}
 use Rattle.flow.specs.Flow.{produceIn, heldIn, sizeIn, Shows}

@@ -14,11 +14,11 @@ use native.Mathlib.Nat.{eq-or-lt-of-le}
 use native.Mathlib.Numerals.{add-one}
 use native.Mathlib.Decide.{ℕ-discrete, decLe}
 use native.Mathlib.Omega.{arith}
-use lib.Dec.{eqb, leb}
+use lib.Dec.{eqb}
 use lib.ListN.{getD}
 use borrow.Author.Tests.{eq-eqb, ne-eqb, le-leb, lt-leb}
 use Rattle.words.specs.Table.{tab}
-use Rattle.chain.specs.Refusals.{first, refused, fine, Silent, lowest-is, all-silent, first-fine}
+use Rattle.chain.specs.Refusals.{refused, fine, Silent, lowest-is, all-silent, first-fine}
 use Rattle.chain.specs.Record.{rowOf}
 use Rattle.chain.specs.Sound.{Sound}
 use Rattle.chain.specs.declared.Chain.{Chain}
@@ -28,9 +28,9 @@ use Rattle.state.specs.Checks.{over}
 use Rattle.state.specs.declared.Run.{Run}
 use Rattle.flow.specs.Flow.{thresholdIn, heldIn, sizeIn, Shows}
 use Rattle.deadlines.specs.Deadline.{deadline, indexCheck}
-use Rattle.deadline.specs.Question.{never, datedOf, dated-had, dated-exact}
+use Rattle.deadline.specs.Question.{never, dated-had, dated-exact}
 use Rattle.instants.specs.Steps.{next, lackingTest, lacking, asEarly, choose, chosen}
-use Rattle.steps.specs.Lent.{Keeps, Looks, lackOf, LackingGives, ChosenGives}
+use Rattle.steps.specs.Lent.{Keeps, lackOf, LackingGives, ChosenGives}
 
 -- N_(j+1) is over threshold exactly when the flow has it so
 module _ {f : List ℕ} {c : Chain} {s : Run} (x : Shows f c s) (j : ℕ) (l : j < c .n) where

@@ -9,11 +9,10 @@
 --   pass-finishes            it has: what the effect of its firing asks
 --   pass-fires, -spills      the firing takes effect, or does not fit
 use mathlib.Core.Path.{_≡_, refl, sym, ap, subst, _∙_}
-use mathlib.Core.Logic.{_≢_, by-cases}
-use mathlib.Core.Bool.{Bool, true, false, cond, not}
+use mathlib.Core.Logic.{_≢_}
+use mathlib.Core.Bool.{Bool, true, false, cond}
 use mathlib.Core.List.{List}
 use Prim.Native.Nat.{ℕ, zero, suc, _+_, _-_, _≤_, _<_}
-use native.Mathlib.Decide.{ℕ-discrete}
 use native.Mathlib.Omega.{arith}
 use lib.Dec.{eqb, leb}
 use lib.ListN.{getD}
@@ -21,7 +20,6 @@ use borrow.Author.Tests.{eq-eqb, ne-eqb, leb-true, leb-false}
 use Rattle.chain.specs.Refusals.{Silent}
 use Rattle.chain.specs.Record.{rowOf, workOf}
 use Rattle.chain.specs.declared.Chain.{Chain}
-use Rattle.sizing.specs.Checks.{limit}
 use Rattle.state.specs.State.{countAt, doneAt}
 use Rattle.state.specs.Fired.{fired, Over, count-other}
 use Rattle.state.specs.Checks.{over, cramped}
@@ -35,11 +33,10 @@ use Rattle.instants.specs.Kept.{Running, SourceStep, sourced-clean, begun-clean
 use Rattle.instants.specs.declared.Outcome.{Outcome}
 use Rattle.instants.specs.declared.Outcome.the-variants.{Clean, Overflowed, NoDeadline}
 use Rattle.instants.specs.declared.Ticked.{Ticked}
-use Rattle.steps.specs.Lent.{Stands, Sources, workedIn, Works, endedAt, EndsIn, Ends, FinishedTo, FinishedGives, outcomeAs, Known, BegunTo, BegunGives}
+use Rattle.steps.specs.Lent.{workedIn, Works, endedAt, EndsIn, Ends, FinishedTo, FinishedGives, outcomeAs, Known, BegunTo, BegunGives}
 use Rattle.steps.specs.Laws.{worked-done, shows-as}
 use Rattle.steps.specs.Passed.{PassIn, Passes, PassTo, PassGives}
 use Rattle.steps.specs.declared.Start.{Start}
-use Rattle.steps.specs.declared.Passed.{Passed}
 
 -- an outcome of the source's step leaves the state as it was
 source-stays : (c : Chain) (s : Run) → (sourced c s .outcome ≡ Clean → ⊥) → sourced c s .run ≡ s
@@ -149,7 +146,7 @@ module _ {l f d e g : List ℕ} {t i : ℕ} {r : Start} (b : BegunGives l f d t 
       let q = begun-clean c s o in
       let is : sourced c s .run ≡ begun c s .run = ap (λ (v : Ticked). v .run) (sym (q .1 .1)) in
       record {
-        step = subst (SourceStep c s) is (sourced-clean (x .stands .running) (λ h. omega (arith, x .stands .counts 0 (omega arith), h)) (q .0));
+        step = subst (SourceStep c s) is (sourced-clean (x .stands .running) (q .0));
         shows = y .shows;
         silent = subst (λ (v : Run). Silent (lacking c v)) is (q .1 .0);
         node = y .node z;

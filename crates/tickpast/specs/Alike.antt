@@ -1,14 +1,12 @@
 -- The slots of a chain and of a state past n are not read by a tick (01, Firing: "the slots past n are neither read nor changed"). Throughout, c and d
 -- are chains, and s and t states, that differ in slots past n only.
---   over-alike, cramped-alike
---                            whether a node may fire, and whether its production does not fit
 --   fired-alike              a firing of a node of the chain
---   chosen-low, ended-low    the node that works, and the one whose work is done, are nodes of the chain
+--   ended-low                the node whose work is done is a node of the chain
 --   sourced-, lacking-, chosen-, worked-, ended-, finish- and finished-alike
 --                            the parts of a tick
 --   begun-, advanced-, tick-, ticks- and instants-alike
 --                            a tick, and a run
---   state-, spent- and tick-refusal-alike, deadline-run-refusal-alike
+--   spent- and tick-refusal-alike, deadline-run-refusal-alike
 --                            they are refused alike
 use mathlib.Core.Path.{_≡_, refl, sym, ap, ap₂, _∙_}
 use mathlib.Core.Bool.{Bool, true, false, cond, not, _&&_}
@@ -24,41 +22,25 @@ use Rattle.chain.specs.Refusals.{test, first, orElse}
 use Rattle.chain.specs.Record.{rowOf, workOf}
 use Rattle.chain.specs.declared.Refusal.{Refusal}
 use Rattle.chain.specs.declared.Chain.{Chain}
-use Rattle.sizing.specs.Sizes.{capacityOf}
 use Rattle.sizing.specs.Checks.{limit}
-use Rattle.state.specs.State.{heldAt, doneAt}
+use Rattle.state.specs.State.{doneAt}
 use Rattle.state.specs.Fired.{produced, consumed, fired}
-use Rattle.state.specs.Checks.{broken, stateTest, stateCheck, over, cramped}
+use Rattle.state.specs.Checks.{over}
 use Rattle.state.specs.declared.Run.{Run}
 use Rattle.past.specs.Chains.{AlikeChains, run-alike}
-use Rattle.past.specs.Runs.{AlikeRuns}
+use Rattle.past.specs.Runs.{AlikeRuns, state-alike, over-alike, cramped-alike}
 use Rattle.deadlines.specs.Deadline.{deadline, indexCheck}
 use Rattle.instants.specs.Steps.{clean, overflowed, undated, withDone, divides, sourced, next, lackingTest, lacking, asEarly, choose, chosen, worked, endedIn, ended, finish, finished, begun, advanced, tick, ticks, instants}
 use Rattle.instants.specs.Checks.{longest, spentTest, spentCheck, lengthCheck, tickRefusal, deadlineRunRefusal}
+use Rattle.instants.specs.Best.{choose-best}
+use Rattle.instants.specs.Kept.{chosen-low}
 use Rattle.instants.specs.Refusals.{tick-parts, deadline-run-parts}
 use Rattle.instants.specs.declared.Outcome.the-variants.{Overflowed, NoDeadline}
 use Rattle.tickpast.specs.Slots.{AlikeLists, alike-set, AlikeStates, runs-of, AlikeTicked, alike-clean, alike-cond, alike-onward}
 use Rattle.tickpast.specs.Deadlines.{deadline-alike, index-alike}
 
--- the second of two tests counts only where the first holds
-and-alike : (b : Bool) (x y : Bool) → (b ≡ true → x ≡ y) → (b && x) ≡ (b && y)
-and-alike true x y h = h refl
-and-alike false x y h = refl
-
--- what a firing reads of the states
+-- what a tick reads of the states
 module _ {c d : Chain} (a : AlikeChains c d) {s t : Run} (r : AlikeRuns (c .n) s t) where
-  -- whether a node of the chain may fire
-  pub over-alike : (i : ℕ) → i ≤ c .n → over c s i ≡ over d t i
-  over-alike zero l = refl
-  over-alike (suc j) l = λ k. leb (a .rows j l k .threshold) (r .held j l k)
-
-  -- whether its production does not fit
-  pub cramped-alike : (i : ℕ) → cramped c s i ≡ cramped d t i
-  unfolding cramped
-  cramped-alike i =
-      and-alike (ltb i (c .n)) _ _ (λ e. let l : i < c .n = ltb-true _ _ e in λ k. ltb (capacityOf (a .rows i l k)) (r .held i l k + a .rows i l k .produce))
-      ∙ ap (λ (n : ℕ). ltb i n && ltb (capacityOf (rowOf d i)) (heldAt t i + rowOf d i .produce)) (a .n)
-
   -- 13 of each node
   pub lacking-alike : lacking c s ≡ lacking d t
   unfolding lacking
@@ -67,22 +49,7 @@ module _ {c d : Chain} (a : AlikeChains c d) {s t : Run} (r : AlikeRuns (c .n) s
       each : (j : ℕ) → j < c .n → lackingTest c s (suc j) ≡ lackingTest d t (suc j)
       each j l =
           let e = index-alike a (suc j) (next s (suc j)) l ∙ ap (λ (m : ℕ). indexCheck d (suc j) (suc m)) (r .counts (suc j) l) in
-          λ k. test 13 (suc j) (over-alike (suc j) l k && not (eqb (e k .number) 0))
-
--- the best of the nodes up to N_n is one of them
-choose-low : (due : ℕ → ℕ) (able : ℕ → Bool) (n : ℕ) → choose due able n ≤ n
-unfolding choose
-choose-low due able zero = le-refl 0
-choose-low due able (suc n) = by (able (suc n) && asEarly due (suc n) (choose due able n)) (choose-low due able n)
-  where
-    by : (b : Bool) → choose due able n ≤ n → cond b (suc n) (choose due able n) ≤ suc n
-    by true l = le-refl (suc n)
-    by false l = le-step l
-
--- so the node that works is a node of the chain
-pub chosen-low : (c : Chain) (s : Run) → chosen c s ≤ c .n
-unfolding chosen
-chosen-low c s = choose-low _ (over c s) (c .n)
+          λ k. test 13 (suc j) (over-alike a r (suc j) l k && not (eqb (e k .number) 0))
 
 -- it is chosen by the deadlines and the thresholds of the nodes up to N_n
 choose-alike : (f g : ℕ → ℕ) (p q : ℕ → Bool) (n : ℕ) → ((i : ℕ) → i ≤ n → f i ≡ g i) → ((i : ℕ) → i ≤ n → p i ≡ q i) → choose f p n ≡ choose g q n
@@ -90,7 +57,7 @@ unfolding choose
 choose-alike f g p q zero due able = refl
 choose-alike f g p q (suc n) due able =
     let e = choose-alike f g p q n (λ i l. due i (le-step l)) (λ i l. able i (le-step l)) in
-    let early = as-early (choose f p n) (choose-low f p n) ∙ ap (asEarly g (suc n)) e in
+    let early = as-early (choose f p n) (choose-best f p n .low) ∙ ap (asEarly g (suc n)) e in
     λ k. cond (able (suc n) (le-refl (suc n)) k && early k) (suc n) (e k)
   where
     as-early : (old : ℕ) → old ≤ n → asEarly f (suc n) old ≡ asEarly g (suc n) old
@@ -228,14 +195,6 @@ module _ {c d : Chain} (a : AlikeChains c d) where
 
 -- what a tick is refused with
 module _ {c d : Chain} (a : AlikeChains c d) {s t : Run} (r : AlikeRuns (c .n) s t) where
-  -- 17 of every queue
-  pub state-alike : stateCheck c s ≡ stateCheck d t
-  unfolding stateCheck
-  state-alike = ap first (tab-alike (c .n) (stateTest c s) (stateTest d t) each ∙ ap (λ (k : ℕ). tab k (stateTest d t)) (a .n))
-    where
-      each : (i : ℕ) → i < c .n → stateTest c s i ≡ stateTest d t i
-      each i l = λ k. test 17 i (broken (a .rows i l k) (a .work i l k) (r .counts i (omega arith) k) (r .counts (suc i) l k) (r .held i l k) (r .done i l k))
-
   -- 9 of every node
   pub spent-alike : spentCheck c s ≡ spentCheck d t
   unfolding spentCheck
@@ -248,7 +207,7 @@ module _ {c d : Chain} (a : AlikeChains c d) {s t : Run} (r : AlikeRuns (c .n) s
   pub tick-refusal-alike : tickRefusal c s ≡ tickRefusal d t
   tick-refusal-alike =
       tick-parts c s
-      ∙ (λ k. orElse (run-alike a k) (orElse (state-alike k) (orElse (test 9 0 (leb longest (r .clock k))) (spent-alike k))))
+      ∙ (λ k. orElse (run-alike a k) (orElse (state-alike a r k) (orElse (test 9 0 (leb longest (r .clock k))) (spent-alike k))))
       ∙ sym (tick-parts d t)
 
 -- and so is a deadline run

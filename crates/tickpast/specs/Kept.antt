@@ -18,9 +18,10 @@ use Rattle.state.specs.State.{countAt, doneAt}
 use Rattle.state.specs.Fired.{produced, consumed, fired}
 use Rattle.state.specs.Checks.{cramped}
 use Rattle.state.specs.declared.Run.{Run}
+use Rattle.instants.specs.Kept.{chosen-low}
 use Rattle.instants.specs.Steps.{clean, undated, onward, withDone, divides, sourced, lacking, chosen, worked, ended, finish, finished, begun, advanced, tick, ticks, instants}
 use Rattle.tickpast.specs.Slots.{KeptList, kept-set, kept-list, kept-lists, KeptSlots, kept-refl, kept-trans, kept-cond, kept-onward}
-use Rattle.tickpast.specs.Alike.{chosen-low, ended-low}
+use Rattle.tickpast.specs.Alike.{ended-low}
 
 -- one tick of work of a node of the chain
 pub worked-kept : {n : ℕ} (s : Run) (i : ℕ) → i ≤ n → KeptSlots n s (worked s i)

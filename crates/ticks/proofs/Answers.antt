@@ -11,11 +11,10 @@ use Rattle.sizing.specs.declared.AnalysisAnswer.{AnalysisAnswer}
 use Rattle.state.specs.State.{emptyRun, freshRun}
 use Rattle.state.specs.Checks.{stateCheck, analysed-run}
 use Rattle.state.specs.declared.Run.{Run}
-use Rattle.instants.specs.Checks.{longest, clockCheck, spentCheck, lengthCheck, tickRefusal, tickAnswer, deadlineRunRefusal, deadlineRunAnswer}
-use Rattle.instants.specs.Steps.{tick, ticks, instants}
-use Rattle.instants.specs.Refusals.{ranAs, refusedAs, tick-parts, tick-ran, tick-refused, ticking-is, length-exact, length-silent, deadline-run-parts, deadline-run-accepts, deadline-run-ran, deadline-run-refused}
+use Rattle.instants.specs.Checks.{longest, clockCheck, spentCheck, tickRefusal, tickAnswer, deadlineRunRefusal, deadlineRunAnswer}
+use Rattle.instants.specs.Steps.{tick, ticks}
+use Rattle.instants.specs.Refusals.{ranAs, refusedAs, tick-parts, tick-ran, tick-refused, ticking-is, length-exact, deadline-run-parts, deadline-run-accepts, deadline-run-ran, deadline-run-refused}
 use Rattle.instants.specs.Fresh.{run-is-ticks}
-use Rattle.instants.specs.declared.Ticked.{Ticked}
 use Rattle.instants.specs.declared.TickAnswer.{TickAnswer}
 use Rattle.ticks.specs.Left.{refusedWith}
 use Rattle.ticks.specs.Runs.{Few, TickAsk, RunAsk}

@@ -4,11 +4,11 @@
 --                            one tick: the state that is lent passes 17, what the tick asks, the node that it names, and the answer
 --   run-stands, -lends, -node, -left
 --                            the same of a run
-use mathlib.Core.Path.{_≡_, refl, sym, ap, subst, _∙_}
+use mathlib.Core.Path.{_≡_, refl, subst}
 use mathlib.Core.Logic.{_≢_, inl, inr, by-cases}
 use mathlib.Core.Bool.{Bool, true, false, cond}
 use mathlib.Core.List.{List}
-use Prim.Native.Nat.{ℕ, suc, _≤_, _<_}
+use Prim.Native.Nat.{ℕ, _≤_, _<_}
 use native.Mathlib.Decide.{ℕ-discrete}
 use native.Mathlib.Omega.{arith}
 use lib.ListN.{length, replicate}
@@ -17,14 +17,13 @@ use Rattle.chain.specs.declared.Chain.{Chain}
 use Rattle.sizing.specs.Checks.{limit}
 use Rattle.sizing.specs.declared.Analysis.{Analysis}
 use Rattle.state.specs.State.{countAt, heldAt, freshRun, fresh-count}
-use Rattle.state.specs.Fired.{fired, Over, held-other}
+use Rattle.state.specs.Fired.{fired, held-other}
 use Rattle.state.specs.Checks.{cramped}
 use Rattle.state.specs.declared.Run.{Run}
 use Rattle.past.specs.Runs.{Whole}
 use Rattle.flow.specs.Flow.{Shows}
 use Rattle.flow.specs.Poured.{Showing}
 use Rattle.deadline.specs.Plan.{Plans}
-use Rattle.instants.specs.Checks.{longest}
 use Rattle.instants.specs.Steps.{clean, overflowed, divides, sourced, tick, ticks}
 use Rattle.instants.specs.Refusals.{ranAs}
 use Rattle.instants.specs.Fresh.{fresh-running}

@@ -3,13 +3,13 @@
 --   Unspent n s i            of the nodes 0 to n, no count before N_i's is at the limit
 --   unspent-none, -more      at the start, and one node further
 --   unspent-found, -end      at the first count that is, and at the end
-use mathlib.Core.Path.{_≡_, refl, sym, _∙_}
+use mathlib.Core.Path.{_≡_, refl, sym}
 use mathlib.Core.Logic.{_≢_, ⊎-elim}
 use Prim.Native.Nat.{ℕ, suc, _+_, _≤_, _<_}
 use native.Mathlib.Nat.{eq-or-lt-of-le}
 use native.Mathlib.Omega.{arith}
 use Rattle.words.specs.Table.{tab}
-use Rattle.chain.specs.Refusals.{refused, fine, orElse, first-fine, or-left, or-right, silent-as, Silent}
+use Rattle.chain.specs.Refusals.{refused, fine, orElse, first-fine, or-left, or-right, Silent}
 use Rattle.chain.specs.declared.Chain.{Chain}
 use Rattle.sizing.specs.Checks.{limit}
 use Rattle.state.specs.State.{countAt}

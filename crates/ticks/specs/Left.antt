@@ -15,7 +15,6 @@ use Rattle.flow.specs.Flow.{Shows}
 use Rattle.flow.specs.Shown.{shown}
 use Rattle.flow.specs.Poured.{shown-with}
 use Rattle.instants.specs.Refusals.{ranAs}
-use Rattle.instants.specs.declared.Outcome.{Outcome}
 use Rattle.instants.specs.declared.Outcome.the-variants.{Clean, Overflowed, NoDeadline}
 use Rattle.instants.specs.declared.Ticked.{Ticked}
 use Rattle.instants.specs.declared.TickAnswer.{TickAnswer}

@@ -13,12 +13,10 @@ use mathlib.Core.Bool.{Bool, true, false, cond}
 use mathlib.Core.List.{List}
 use Prim.Native.Nat.{ℕ, suc, _+_, _-_, _≤_, _<_}
 use native.Mathlib.Decide.{ℕ-discrete}
-use native.Mathlib.Numerals.{add-one}
 use native.Mathlib.Omega.{arith}
-use lib.ListN.{length, getD, set, length-set}
+use lib.ListN.{length, set, length-set}
 use lib.Seq.{getD-set-same, getD-set-other}
 use Rattle.chain.specs.declared.Chain.{Chain}
-use Rattle.sizing.specs.Checks.{limit}
 use Rattle.state.specs.State.{countAt, freshRun}
 use Rattle.state.specs.Fired.{fired, count-other}
 use Rattle.state.specs.Checks.{cramped}
@@ -30,16 +28,15 @@ use Rattle.instants.specs.Checks.{longest}
 use Rattle.instants.specs.Steps.{clean, overflowed, goes, onward, divides, sourced, next, tick, ticks}
 use Rattle.instants.specs.Runs.{onward-none, ticks-none, ticks-suc, ticks-more}
 use Rattle.instants.specs.Kept.{TickStep, tick-step}
-use Rattle.instants.specs.Fresh.{Paced, fresh-paced, tick-paced, paced-countable}
+use Rattle.instants.specs.Fresh.{Paced, fresh-paced, tick-paced}
 use Rattle.instants.specs.declared.Outcome.{Outcome}
 use Rattle.instants.specs.declared.Outcome.the-variants.{Clean, Overflowed, NoDeadline}
 use Rattle.instants.specs.declared.Ticked.{Ticked}
-use Rattle.steps.specs.Lent.{Stands, Keeps, Known, outcomeAs}
+use Rattle.steps.specs.Lent.{Stands, Keeps, Known}
 use Rattle.steps.specs.Passed.{PassIn, Passes, PassTo, PassGives}
 use Rattle.steps.specs.Ticked.{as-clean, as-unclean}
 use Rattle.steps.specs.declared.Passed.{Passed}
 use Rattle.ticks.specs.Runs.{KeepsAll, LendsIn, Lends, RanTo, RanGives}
-use Rattle.ticks.specs.declared.Ended.{Ended}
 
 -- the source's step changes no other node's count
 pub sourced-others : (c : Chain) (s : Run) (j : ℕ) → countAt (sourced c s .run) (suc j) ≡ countAt s (suc j)
@@ -161,10 +158,10 @@ module _ {l f d e : List ℕ} {T : ℕ} {c : Chain} (a : LendsIn l f d e T c) {m
       went = p .outcome ∙ as-clean (r .kind) (r .tick) (r .node) z
 
       after : TickStep c now (tick c now .run)
-      after = tick-step (y .paced .running) (paced-countable (y .paced) (omega (arith, early))) went
+      after = tick-step (y .paced .running) went
 
       paced-next : Paced c (tick c now .run)
-      paced-next = tick-paced (y .paced) (omega (arith, early)) went
+      paced-next = tick-paced (y .paced) went
 
       gone-next : {w : List ℕ} {k : ℕ} → KeepsAll w c (tick c now .run) → length w ≡ 16 → Known c (tick c now .run) k → Gone c T (m + 1) u w v k
       gone-next {w} {k} keeps wide known = record {

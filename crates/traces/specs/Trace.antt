@@ -216,7 +216,7 @@ module _ {c : Chain} {s : Run} (r : Running c s) (some : Countable c s) where
       first : begun c s .outcome ≡ Clean → SourceStep c s (begun c s .run)
       first h =
           let b = begun-clean c s h in
-          subst (λ (x : Ticked). SourceStep c s (x .run)) (sym (b .1 .1)) (sourced-clean r (some 0 (omega arith)) (b .0))
+          subst (λ (x : Ticked). SourceStep c s (x .run)) (sym (b .1 .1)) (sourced-clean r (b .0))
 
       work : Run → Ticked
       work u = clean (worked u (chosen c u))
@@ -237,7 +237,7 @@ traced {c} zero {s} p l = replays-none c s s refl refl
 traced {c} (suc T) {s} p l = by (tick c s .outcome) (tick c s .run) next (tick-traced (p .running) (paced-countable p (omega arith))) (λ v q m. traced T q m)
   where
     next : tick c s .outcome ≡ Clean → Paced c (tick c s .run) × (tick c s .run .clock + T ≤ longest)
-    next h = (tick-paced p (omega arith) h, omega (arith, tick-step (p .running) (paced-countable p (omega arith)) h .clock))
+    next h = (tick-paced p h, omega (arith, tick-step (p .running) h .clock))
 
     by : (o : Outcome) (v : Run) → (o ≡ Clean → Paced c v × (v .clock + T ≤ longest)) → Replays c s (tickTrace c s) v
         → ((v : Run) → Paced c v → v .clock + T ≤ longest → Replays c v (trace c T v) (ticks c T v .run))

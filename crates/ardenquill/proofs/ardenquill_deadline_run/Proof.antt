@@ -5,20 +5,13 @@ use Rattle.instants.specs.declared.TickAnswer.{TickAnswer}
 use Rattle.ardenquill.specs.Flat.{flat}
 use Rattle.ardenquill.proofs.ardenquill_deadline_run.Statement.{statement}
 use Rattle.ardenquill.proofs.ardenquill_deadline_run.Tie as tie
-use Rattle.ardenquill.proofs.ardenquill_deadline_run.Reads as reads
-use Rattle.ardenquill.proofs.ardenquill_deadline_run.Lts as lts
-use Rattle.ardenquill.proofs.flattened.Reads as flattened-reads
-use Rattle.ticks.proofs.deadline_run.Reads as deadline-run-reads
 
--- src/lib.rt:132:15
 deadline-run-requires : tie.Need-deadline-run-requires
 deadline-run-requires c κs = search needs
 
--- src/lib.rt:132:5
 flattened-requires : tie.Need-flattened-requires
 flattened-requires c κs = search needs
 
--- src/lib.rt:128:1
 returns : tie.Need-returns
 returns c = c .flattened .ensures ∙ ap (λ (a : TickAnswer). flat a) (c .before .deadline-run .ensures)
 

@@ -11,7 +11,6 @@ use Rattle.deadline.proofs.due.Kinds as due-kinds
 use Rattle.deadline.proofs.+due.Lts-due as due-lts
 use Rattle.deadline.proofs.at_source.Reads as at-source-reads
 use Rattle.deadline.proofs.index_before.Reads as index-before-reads
-use Rattle.deadline.proofs.refused.Reads as refused-reads
 use Rattle.deadline.proofs.+due.{statement}
 use Rattle.deadline.proofs.+due.Tie.{close}
 
@@ -29,8 +28,6 @@ due-element-copy-out-at-source : (t : ℕ) → due-lts.Need-element-copy-out-at-
   at-source-reads.Learnt,
   index-before-reads.Asked,
   index-before-reads.Learnt,
-  refused-reads.Asked,
-  refused-reads.Learnt,
   due-below t,
   due.Post,
 ) (due-at t) due.Post
@@ -41,8 +38,6 @@ due-at-source-requires : (t : ℕ) → due-lts.Need-at-source-requires (
   at-source-reads.Learnt,
   index-before-reads.Asked,
   index-before-reads.Learnt,
-  refused-reads.Asked,
-  refused-reads.Learnt,
   due-below t,
   due.Post,
 ) (due-at t) due.Post
@@ -53,8 +48,6 @@ due-returns : (t : ℕ) → due-lts.Need-returns (
   at-source-reads.Learnt,
   index-before-reads.Asked,
   index-before-reads.Learnt,
-  refused-reads.Asked,
-  refused-reads.Learnt,
   due-below t,
   due.Post,
 ) (due-at t) due.Post
@@ -67,8 +60,6 @@ due-sub-j : (t : ℕ) → due-lts.Need-sub-j (
   at-source-reads.Learnt,
   index-before-reads.Asked,
   index-before-reads.Learnt,
-  refused-reads.Asked,
-  refused-reads.Learnt,
   due-below t,
   due.Post,
 ) (due-at t) due.Post
@@ -79,8 +70,6 @@ due-add-index-before : (t : ℕ) → due-lts.Need-add-index-before (
   at-source-reads.Learnt,
   index-before-reads.Asked,
   index-before-reads.Learnt,
-  refused-reads.Asked,
-  refused-reads.Learnt,
   due-below t,
   due.Post,
 ) (due-at t) due.Post
@@ -91,8 +80,6 @@ due-mul-index-before : (t : ℕ) → due-lts.Need-mul-index-before (
   at-source-reads.Learnt,
   index-before-reads.Asked,
   index-before-reads.Learnt,
-  refused-reads.Asked,
-  refused-reads.Learnt,
   due-below t,
   due.Post,
 ) (due-at t) due.Post
@@ -103,8 +90,6 @@ due-element-copy-out-index-before : (t : ℕ) → due-lts.Need-element-copy-out-
   at-source-reads.Learnt,
   index-before-reads.Asked,
   index-before-reads.Learnt,
-  refused-reads.Asked,
-  refused-reads.Learnt,
   due-below t,
   due.Post,
 ) (due-at t) due.Post
@@ -115,8 +100,6 @@ due-add-index-before-2 : (t : ℕ) → due-lts.Need-add-index-before-2 (
   at-source-reads.Learnt,
   index-before-reads.Asked,
   index-before-reads.Learnt,
-  refused-reads.Asked,
-  refused-reads.Learnt,
   due-below t,
   due.Post,
 ) (due-at t) due.Post
@@ -127,8 +110,6 @@ due-mul-index-before-2 : (t : ℕ) → due-lts.Need-mul-index-before-2 (
   at-source-reads.Learnt,
   index-before-reads.Asked,
   index-before-reads.Learnt,
-  refused-reads.Asked,
-  refused-reads.Learnt,
   due-below t,
   due.Post,
 ) (due-at t) due.Post
@@ -139,8 +120,6 @@ due-element-copy-out-index-before-2 : (t : ℕ) → due-lts.Need-element-copy-ou
   at-source-reads.Learnt,
   index-before-reads.Asked,
   index-before-reads.Learnt,
-  refused-reads.Asked,
-  refused-reads.Learnt,
   due-below t,
   due.Post,
 ) (due-at t) due.Post
@@ -151,8 +130,6 @@ due-add-index-before-3 : (t : ℕ) → due-lts.Need-add-index-before-3 (
   at-source-reads.Learnt,
   index-before-reads.Asked,
   index-before-reads.Learnt,
-  refused-reads.Asked,
-  refused-reads.Learnt,
   due-below t,
   due.Post,
 ) (due-at t) due.Post
@@ -163,8 +140,6 @@ due-mul-index-before-3 : (t : ℕ) → due-lts.Need-mul-index-before-3 (
   at-source-reads.Learnt,
   index-before-reads.Asked,
   index-before-reads.Learnt,
-  refused-reads.Asked,
-  refused-reads.Learnt,
   due-below t,
   due.Post,
 ) (due-at t) due.Post
@@ -175,8 +150,6 @@ due-element-copy-out-index-before-3 : (t : ℕ) → due-lts.Need-element-copy-ou
   at-source-reads.Learnt,
   index-before-reads.Asked,
   index-before-reads.Learnt,
-  refused-reads.Asked,
-  refused-reads.Learnt,
   due-below t,
   due.Post,
 ) (due-at t) due.Post
@@ -187,8 +160,6 @@ due-index-before-requires : (t : ℕ) → due-lts.Need-index-before-requires (
   at-source-reads.Learnt,
   index-before-reads.Asked,
   index-before-reads.Learnt,
-  refused-reads.Asked,
-  refused-reads.Learnt,
   due-below t,
   due.Post,
 ) (due-at t) due.Post
@@ -196,51 +167,23 @@ due-index-before-requires t c κs =
     let s = c .before .before .before .before in
     rw zero-add (step-range (s .pre .1) (omega (arith, s .fits .k .fits)) (c .before .before .before .if1 .left))
 
-due-cast-refused : (t : ℕ) → due-lts.Need-cast-refused (
-  at-source-reads.Asked,
-  at-source-reads.Learnt,
-  index-before-reads.Asked,
-  index-before-reads.Learnt,
-  refused-reads.Asked,
-  refused-reads.Learnt,
-  due-below t,
-  due.Post,
-) (due-at t) due.Post
-due-cast-refused t c = search needs
-
-due-refused-requires : (t : ℕ) → due-lts.Need-refused-requires (
-  at-source-reads.Asked,
-  at-source-reads.Learnt,
-  index-before-reads.Asked,
-  index-before-reads.Learnt,
-  refused-reads.Asked,
-  refused-reads.Learnt,
-  due-below t,
-  due.Post,
-) (due-at t) due.Post
-due-refused-requires t c κs = search needs
-
 due-returns-2 : (t : ℕ) → due-lts.Need-returns-2 (
   at-source-reads.Asked,
   at-source-reads.Learnt,
   index-before-reads.Asked,
   index-before-reads.Learnt,
-  refused-reads.Asked,
-  refused-reads.Learnt,
   due-below t,
   due.Post,
 ) (due-at t) due.Post
 due-returns-2 t c =
-    let s = c .before .before .before .before .before .before .before in
-    passing-gives (s .pre .1) (omega (arith, s .fits .k .fits)) (c .before .before .before .before .before .before .if1 .left) (rw zero-add at (c .before .before .index-before .ensures)) (c .before .if2 .taken) (c .refused .ensures)
+    let s = c .before .before .before .before .before .before in
+    passing-gives (s .pre .1) (omega (arith, s .fits .k .fits)) (c .before .before .before .before .before .if1 .left) (rw zero-add at (c .before .index-before .ensures)) (c .if2 .taken)
 
 due-cast-due : (t : ℕ) → due-lts.Need-cast-due (
   at-source-reads.Asked,
   at-source-reads.Learnt,
   index-before-reads.Asked,
   index-before-reads.Learnt,
-  refused-reads.Asked,
-  refused-reads.Learnt,
   due-below t,
   due.Post,
 ) (due-at t) due.Post
@@ -251,8 +194,6 @@ due-due-requires : (t : ℕ) → due-lts.Need-due-requires (
   at-source-reads.Learnt,
   index-before-reads.Asked,
   index-before-reads.Learnt,
-  refused-reads.Asked,
-  refused-reads.Learnt,
   due-below t,
   due.Post,
 ) (due-at t) due.Post
@@ -265,8 +206,6 @@ due-returns-3 : (t : ℕ) → due-lts.Need-returns-3 (
   at-source-reads.Learnt,
   index-before-reads.Asked,
   index-before-reads.Learnt,
-  refused-reads.Asked,
-  refused-reads.Learnt,
   due-below t,
   due.Post,
 ) (due-at t) due.Post
@@ -280,8 +219,6 @@ pub +due-spec : {M : Type 1} → statement M
   at-source-reads.Learnt,
   index-before-reads.Asked,
   index-before-reads.Learnt,
-  refused-reads.Asked,
-  refused-reads.Learnt,
   due-below t,
   due.Post,
 )
@@ -301,8 +238,6 @@ pub +due-spec : {M : Type 1} → statement M
     (due-mul-index-before-3 t)
     (due-element-copy-out-index-before-3 t)
     (due-index-before-requires t)
-    (due-cast-refused t)
-    (due-refused-requires t)
     (due-returns-2 t)
     (due-cast-due t)
     (due-due-requires t)

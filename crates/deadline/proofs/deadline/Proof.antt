@@ -1,8 +1,8 @@
--- `deadline::deadline` meets its contract: the chain may not run, or there is no such node or firing, or the index is followed down.
+-- `deadline::deadline` meets its contract: the chain may not run, or there is no such node or firing, or the index is followed down, and passes the limit or not.
 use borrow.Author.Needs.{needs}
 use mathlib.Core.Path.{_∙_}
 use Rattle.state.specs.Checks.{analysed-run}
-use Rattle.deadline.proofs.Answers.{chain-refuses, sound-chain, ask-refuses, fresh-dues, due-answers}
+use Rattle.deadline.proofs.Answers.{chain-refuses, sound-chain, ask-refuses, fresh-dues, never-answers, had-answers}
 use Rattle.deadline.proofs.deadline.Statement.{statement}
 use Rattle.deadline.proofs.deadline.Tie as tie
 
@@ -30,8 +30,23 @@ planned-requires c κs = analysed-run _ (c .before .before .before .before .befo
 due-requires : tie.Need-due-requires
 due-requires c κs = fresh-dues _ _ _ (c .before .before .before .before .before .before .before .before .checked-for-run .ensures) (c .before .before .before .before .before .before .if1 .left) (c .before .before .before .before .if2 .left) (c .before .before .planned .ensures) (c .before .before .before .started .ensures)
 
+passing-requires : tie.Need-passing-requires
+passing-requires c κs =
+    let s = c .before .before .before .before in
+    fresh-dues _ _ _ (s .before .before .before .before .before .before .before .before .checked-for-run .ensures) (s .before .before .before .before .before .before .if1 .left) (s .before .before .before .before .if2 .left) (s .before .before .planned .ensures) (s .before .before .before .started .ensures)
+
+refused-requires-3 : tie.Need-refused-requires-3
+refused-requires-3 c κs = search needs
+
 returns-3 : tie.Need-returns-3
-returns-3 c = due-answers _ _ _ (c .before .before .before .before .before .before .before .before .before .checked-for-run .ensures) (c .before .before .before .before .before .before .before .if1 .left) (c .before .before .before .before .before .if2 .left) (c .before .before .before .planned .ensures) (c .before .before .before .before .started .ensures) (c .due .ensures)
+returns-3 c =
+    let s = c .before .before .before .before .before .before in
+    c .refused3 .ensures ∙ never-answers _ _ _ (s .before .before .before .before .before .before .before .before .checked-for-run .ensures) (s .before .before .before .before .before .before .if1 .left) (s .before .before .before .before .if2 .left) (s .before .before .planned .ensures) (s .before .before .before .started .ensures) (c .before .before .before .before .before .due .ensures) (c .before .before .before .before .if3 .taken) (c .before .passing .ensures)
+
+returns-4 : tie.Need-returns-4
+returns-4 c =
+    let s = c .before .before in
+    had-answers _ _ _ (s .before .before .before .before .before .before .before .before .checked-for-run .ensures) (s .before .before .before .before .before .before .if1 .left) (s .before .before .before .before .if2 .left) (s .before .before .planned .ensures) (s .before .before .before .started .ensures) (c .before .due .ensures) (c .if3 .left)
 
 pub deadline-spec : {M : Type 1} → statement M
 deadline-spec =
@@ -45,4 +60,7 @@ deadline-spec =
     started-requires
     planned-requires
     due-requires
-    returns-3)
+    passing-requires
+    refused-requires-3
+    returns-3
+    returns-4)

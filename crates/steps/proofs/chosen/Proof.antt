@@ -4,8 +4,6 @@ use borrow.Author.Needs.{needs}
 use Rattle.steps.specs.Scans.{Chosen, chosen-none, chosen-taken, chosen-under, chosen-later, chosen-end}
 use Rattle.steps.proofs.chosen.Statement.{statement}
 use Rattle.steps.proofs.chosen.Tie as tie
-use Rattle.steps.proofs.chosen.Reads as reads
-use Rattle.steps.proofs.chosen.Lts as lts
 
 abbrev Inv-loop : tie.InvT-loop
 Inv-loop flow due n node₀ earliest₀ j₀ node earliest j = Chosen flow due j node earliest
@@ -13,71 +11,54 @@ Inv-loop flow due n node₀ earliest₀ j₀ node earliest j = Chosen flow due j
 abbrev μ-loop : tie.MeasureT-loop
 μ-loop flow due n node₀ earliest₀ j₀ node earliest j = n - j
 
--- src/lib.rt:183:13
 element-copy-out-n : tie.Need-element-copy-out-n Inv-loop μ-loop
 element-copy-out-n c = search needs
 
--- src/lib.rt:183:13
 cast-n : tie.Need-cast-n Inv-loop μ-loop
 cast-n c = search needs
 
--- src/lib.rt:187:5
 loop-holds : tie.Need-loop-holds Inv-loop μ-loop
 loop-holds c = chosen-none _ _
 
--- src/lib.rt:188:17
 add-if1 : tie.Need-add-if1 Inv-loop μ-loop
 add-if1 c = search needs
 
--- src/lib.rt:188:12
 mul-if1 : tie.Need-mul-if1 Inv-loop μ-loop
 mul-if1 c = search needs
 
--- src/lib.rt:188:12
 element-copy-out-if1 : tie.Need-element-copy-out-if1 Inv-loop μ-loop
 element-copy-out-if1 c = search needs
 
--- src/lib.rt:188:40
 add-if1-2 : tie.Need-add-if1-2 Inv-loop μ-loop
 add-if1-2 c = search needs
 
--- src/lib.rt:188:35
 mul-if1-2 : tie.Need-mul-if1-2 Inv-loop μ-loop
 mul-if1-2 c = search needs
 
--- src/lib.rt:188:35
 element-copy-out-if1-2 : tie.Need-element-copy-out-if1-2 Inv-loop μ-loop
 element-copy-out-if1-2 c = search needs
 
--- src/lib.rt:189:16
 mul-if2 : tie.Need-mul-if2 Inv-loop μ-loop
 mul-if2 c = search needs
 
--- src/lib.rt:189:16
 element-copy-out-if2 : tie.Need-element-copy-out-if2 Inv-loop μ-loop
 element-copy-out-if2 c = search needs
 
--- src/lib.rt:190:24
 add-node : tie.Need-add-node Inv-loop μ-loop
 add-node c = search needs
 
--- src/lib.rt:191:28
 mul-earliest : tie.Need-mul-earliest Inv-loop μ-loop
 mul-earliest c = search needs
 
--- src/lib.rt:191:28
 element-copy-out-earliest : tie.Need-element-copy-out-earliest Inv-loop μ-loop
 element-copy-out-earliest c = search needs
 
--- src/lib.rt:194:9
 add-j : tie.Need-add-j Inv-loop μ-loop
 add-j c = search needs
 
--- src/lib.rt:187:5
 loop-less : tie.Need-loop-less Inv-loop μ-loop
 loop-less c = search needs
 
--- src/lib.rt:187:5
 loop-again : tie.Need-loop-again Inv-loop μ-loop
 loop-again c =
     let inv = c .before .before .before .before .loop .inv in
@@ -86,7 +67,6 @@ loop-again c =
     (⊎-elim (λ w. rw (w .3, w .4) (chosen-later inv test (w .2 .left))) (λ w. rw (w .1, w .2) (chosen-under inv test (w .0 .left))))
     (c .if1 .came)
 
--- src/lib.rt:179:1
 returns : tie.Need-returns Inv-loop μ-loop
 returns c = chosen-end (c .before .loop .inv) (c .loop-test .left)
 

@@ -4,9 +4,6 @@ use borrow.Author.Needs.{needs}
 use Rattle.steps.specs.Dued.{Dued, dued-none, dued-taken, dued-left, dued-end, dued-size, dued-dated}
 use Rattle.steps.proofs.dues.Statement.{statement}
 use Rattle.steps.proofs.dues.Tie as tie
-use Rattle.steps.proofs.dues.Reads as reads
-use Rattle.steps.proofs.dues.Lts as lts
-use Rattle.deadline.proofs.dated.Reads as dated-reads
 
 abbrev Inv-loop : tie.InvT-loop
 Inv-loop plan flow every n due₀ j₀ due j = Dued plan flow every j due
@@ -14,74 +11,57 @@ Inv-loop plan flow every n due₀ j₀ due j = Dued plan flow every j due
 abbrev μ-loop : tie.MeasureT-loop
 μ-loop plan flow every n due₀ j₀ due j = n - j
 
--- src/lib.rt:133:13
 element-copy-out-n : tie.Need-element-copy-out-n Inv-loop μ-loop
 element-copy-out-n c = search needs
 
--- src/lib.rt:133:13
 cast-n : tie.Need-cast-n Inv-loop μ-loop
 cast-n c = search needs
 
--- src/lib.rt:136:5
 loop-holds : tie.Need-loop-holds Inv-loop μ-loop
 loop-holds c = dued-none _ _ _
 
--- src/lib.rt:137:37
 add-if1 : tie.Need-add-if1 Inv-loop μ-loop
 add-if1 c = search needs
 
--- src/lib.rt:137:32
 mul-if1 : tie.Need-mul-if1 Inv-loop μ-loop
 mul-if1 c = search needs
 
--- src/lib.rt:137:32
 element-copy-out-if1 : tie.Need-element-copy-out-if1 Inv-loop μ-loop
 element-copy-out-if1 c = search needs
 
--- src/lib.rt:137:60
 add-if1-2 : tie.Need-add-if1-2 Inv-loop μ-loop
 add-if1-2 c = search needs
 
--- src/lib.rt:137:55
 mul-if1-2 : tie.Need-mul-if1-2 Inv-loop μ-loop
 mul-if1-2 c = search needs
 
--- src/lib.rt:137:55
 element-copy-out-if1-2 : tie.Need-element-copy-out-if1-2 Inv-loop μ-loop
 element-copy-out-if1-2 c = search needs
 
--- src/lib.rt:138:50
 add-dated : tie.Need-add-dated Inv-loop μ-loop
 add-dated c = search needs
 
--- src/lib.rt:138:22
 dated-requires : tie.Need-dated-requires Inv-loop μ-loop
 dated-requires c κs = dued-dated (c .before .before .before .before .before .before .pre) (c .before .before .before .loop-test .taken)
 
--- src/lib.rt:138:13
 mul-due : tie.Need-mul-due Inv-loop μ-loop
 mul-due c = search needs
 
--- src/lib.rt:138:13
 array-write-due : tie.Need-array-write-due Inv-loop μ-loop
 array-write-due c = search needs
 
--- src/lib.rt:140:9
 add-j : tie.Need-add-j Inv-loop μ-loop
 add-j c = search needs
 
--- src/lib.rt:136:5
 loop-less : tie.Need-loop-less Inv-loop μ-loop
 loop-less c = search needs
 
--- src/lib.rt:136:5
 loop-again : tie.Need-loop-again Inv-loop μ-loop
 loop-again c =
     let inv = c .before .before .before .before .loop .inv in
     let test = c .before .before .before .loop-test .taken in
     ⊎-elim (λ w. rw (w .2) (dued-taken inv test (dued-size (c .before .before .before .before .before .before .pre)) (w .1 .ensures))) (λ w. rw (w .1) (dued-left inv test (w .0 .left))) (c .if1 .came)
 
--- src/lib.rt:129:1
 returns : tie.Need-returns Inv-loop μ-loop
 returns c = dued-end (c .before .loop .inv) (c .loop-test .left)
 

@@ -1,12 +1,9 @@
 use Prim.Native.Nat.{_-_}
-use native.Mathlib.Omega.{arith}
 use borrow.Author.Needs.{needs}
 use mathlib.Core.Logic.{⊎-elim}
-use Rattle.steps.specs.Scans.{Looked, looked-none, looked-rests, looked-dated, looked-found, looked-end}
+use Rattle.steps.specs.Scans.{Looked, looked-rests, looked-dated, looked-found, looked-end}
 use Rattle.steps.proofs.lacking.Statement.{statement}
 use Rattle.steps.proofs.lacking.Tie as tie
-use Rattle.steps.proofs.lacking.Reads as reads
-use Rattle.steps.proofs.lacking.Lts as lts
 
 abbrev Inv-loop : tie.InvT-loop
 Inv-loop flow due n j₀ j = Looked flow due j
@@ -14,71 +11,54 @@ Inv-loop flow due n j₀ j = Looked flow due j
 abbrev μ-loop : tie.MeasureT-loop
 μ-loop flow due n j₀ j = n - j
 
--- src/lib.rt:98:13
 element-copy-out-n : tie.Need-element-copy-out-n Inv-loop μ-loop
 element-copy-out-n c = search needs
 
--- src/lib.rt:98:13
 cast-n : tie.Need-cast-n Inv-loop μ-loop
 cast-n c = search needs
 
--- src/lib.rt:100:5
 loop-holds : tie.Need-loop-holds Inv-loop μ-loop
 loop-holds c = search needs
 
--- src/lib.rt:101:17
 add-if1 : tie.Need-add-if1 Inv-loop μ-loop
 add-if1 c = search needs
 
--- src/lib.rt:101:12
 mul-if1 : tie.Need-mul-if1 Inv-loop μ-loop
 mul-if1 c = search needs
 
--- src/lib.rt:101:12
 element-copy-out-if1 : tie.Need-element-copy-out-if1 Inv-loop μ-loop
 element-copy-out-if1 c = search needs
 
--- src/lib.rt:101:40
 add-if1-2 : tie.Need-add-if1-2 Inv-loop μ-loop
 add-if1-2 c = search needs
 
--- src/lib.rt:101:35
 mul-if1-2 : tie.Need-mul-if1-2 Inv-loop μ-loop
 mul-if1-2 c = search needs
 
--- src/lib.rt:101:35
 element-copy-out-if1-2 : tie.Need-element-copy-out-if1-2 Inv-loop μ-loop
 element-copy-out-if1-2 c = search needs
 
--- src/lib.rt:102:16
 mul-if2 : tie.Need-mul-if2 Inv-loop μ-loop
 mul-if2 c = search needs
 
--- src/lib.rt:102:16
 element-copy-out-if2 : tie.Need-element-copy-out-if2 Inv-loop μ-loop
 element-copy-out-if2 c = search needs
 
--- src/lib.rt:103:24
 add-result : tie.Need-add-result Inv-loop μ-loop
 add-result c = search needs
 
--- src/lib.rt:103:17
 returns : tie.Need-returns Inv-loop μ-loop
 returns c = looked-found (c .before .before .before .before .before .before .loop .inv) (c .before .before .before .before .before .loop-test .taken) (c .before .before .if1 .taken) (c .if2 .taken)
 
--- src/lib.rt:106:9
 add-j : tie.Need-add-j Inv-loop μ-loop
 add-j c = search needs
 
--- src/lib.rt:100:5
 loop-less : tie.Need-loop-less Inv-loop μ-loop
 loop-less c = search needs
 
--- src/lib.rt:100:5
 loop-again : tie.Need-loop-again Inv-loop μ-loop
 loop-again c = ⊎-elim (λ w. looked-dated (c .before .before .before .before .loop .inv) (c .before .before .before .loop-test .taken) (w .2 .left)) (λ w. looked-rests (c .before .before .before .before .loop .inv) (c .before .before .before .loop-test .taken) (w .left)) (c .if1 .came)
 
--- src/lib.rt:94:1
 returns-2 : tie.Need-returns-2 Inv-loop μ-loop
 returns-2 c = looked-end (c .before .loop .inv) (c .loop-test .left)
 

@@ -2,75 +2,53 @@ use borrow.Author.Needs.{needs}
 use Rattle.steps.specs.Ticked.{pass-ends, pass-works, pass-goes, pass-finishes, pass-fires, pass-spills}
 use Rattle.steps.proofs.pass.Statement.{statement}
 use Rattle.steps.proofs.pass.Tie as tie
-use Rattle.steps.proofs.pass.Reads as reads
-use Rattle.steps.proofs.pass.Lts as lts
-use Rattle.steps.proofs.begun.Reads as begun-reads
-use Rattle.steps.proofs.finished.Reads as finished-reads
-use Rattle.steps.proofs.has_ended.Reads as has-ended-reads
-use Rattle.steps.proofs.left.Reads as left-reads
-use Rattle.steps.proofs.worked.Reads as worked-reads
 
--- src/lib.rt:57:9
 begun-requires : tie.Need-begun-requires
 begun-requires c κs = search needs
 
--- src/lib.rt:60:9
 left-requires : tie.Need-left-requires
 left-requires c κs = search needs
 
--- src/lib.rt:60:9
 returns : tie.Need-returns
 returns c = rw (c .left .ensures) (pass-ends (c .before .before .before .begun .ensures) (c .before .if1 .taken))
 
--- src/lib.rt:62:5
 worked-requires : tie.Need-worked-requires
 worked-requires c κs = pass-works (c .before .before .before .begun .ensures) (c .before .if1 .left) (c .before .before .before .before .before .pre)
 
--- src/lib.rt:63:8
 has-ended-requires : tie.Need-has-ended-requires
 has-ended-requires c κs = pass-works (c .before .before .before .before .before .begun .ensures) (c .before .before .before .if1 .left) (c .before .before .before .before .before .before .before .pre) .node
 
--- src/lib.rt:64:12
 finished-requires : tie.Need-finished-requires
 finished-requires c κs = pass-finishes (c .before .before .before .before .before .before .before .before .before .begun .ensures) (c .before .before .before .before .before .before .before .if1 .left) (c .before .before .before .before .before .worked .ensures) (c .before .before .before .has-ended .ensures) (c .before .before .if2 .taken) (c .before .before .before .before .before .before .before .before .before .before .before .pre)
 
--- src/lib.rt:65:32
 add-left : tie.Need-add-left
 add-left c = search needs
 
--- src/lib.rt:65:13
 left-requires-2 : tie.Need-left-requires-2
 left-requires-2 c κs = search needs
 
--- src/lib.rt:65:13
 returns-2 : tie.Need-returns-2
 returns-2 c =
     rw (c .left2 .ensures)
     (pass-fires (c .before .before .before .before .before .before .before .before .before .before .before .before .begun .ensures) (c .before .before .before .before .before .before .before .before .before .before .if1 .left) (c .before .before .before .before .before .before .before .before .worked .ensures) (c .before .before .before .before .before .before .has-ended .ensures) (c .before .before .before .before .before .if2 .taken) (c .before .before .finished .ensures) (c .before .if3 .taken))
 
--- src/lib.rt:67:33
 add-left-2 : tie.Need-add-left-2
 add-left-2 c = search needs
 
--- src/lib.rt:67:9
 left-requires-3 : tie.Need-left-requires-3
 left-requires-3 c κs = search needs
 
--- src/lib.rt:67:9
 returns-3 : tie.Need-returns-3
 returns-3 c =
     rw (c .left3 .ensures)
     (pass-spills (c .before .before .before .before .before .before .before .before .before .before .before .before .begun .ensures) (c .before .before .before .before .before .before .before .before .before .before .if1 .left) (c .before .before .before .before .before .before .before .before .worked .ensures) (c .before .before .before .before .before .before .has-ended .ensures) (c .before .before .before .before .before .if2 .taken) (c .before .before .finished .ensures) (c .before .if3 .left))
 
--- src/lib.rt:69:17
 add-left-3 : tie.Need-add-left-3
 add-left-3 c = search needs
 
--- src/lib.rt:69:5
 left-requires-4 : tie.Need-left-requires-4
 left-requires-4 c κs = search needs
 
--- src/lib.rt:46:1
 returns-4 : tie.Need-returns-4
 returns-4 c =
     rw (c .left4 .ensures)

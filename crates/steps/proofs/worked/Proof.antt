@@ -4,38 +4,28 @@ use native.Mathlib.Omega.{arith}
 use Rattle.steps.specs.Laws.{work-node, work-none}
 use Rattle.steps.proofs.worked.Statement.{statement}
 use Rattle.steps.proofs.worked.Tie as tie
-use Rattle.steps.proofs.worked.Reads as reads
-use Rattle.steps.proofs.worked.Lts as lts
 
--- src/lib.rt:136:17
 sub-j : tie.Need-sub-j
 sub-j c = search needs
 
--- src/lib.rt:137:19
 mul-done : tie.Need-mul-done
 mul-done c = search needs
 
--- src/lib.rt:137:19
 element-copy-out-done : tie.Need-element-copy-out-done
 element-copy-out-done c = search needs
 
--- src/lib.rt:137:19
 add-done : tie.Need-add-done
 add-done c = record { fits = omega (arith, c .before .before .pre .less (c .before .before .args .i - 1) (omega (arith, c .before .if1 .taken))) }
 
--- src/lib.rt:137:9
 mul-done-2 : tie.Need-mul-done-2
 mul-done-2 c = search needs
 
--- src/lib.rt:137:9
 element-write-done : tie.Need-element-write-done
 element-write-done c = search needs
 
--- src/lib.rt:131:1
 returns : tie.Need-returns
 returns c = work-node _ _ (c .before .if1 .taken)
 
--- src/lib.rt:131:1
 returns-2 : tie.Need-returns-2
 returns-2 c = work-none _ _ (c .if1 .left)
 

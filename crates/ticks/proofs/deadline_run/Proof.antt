@@ -3,37 +3,25 @@ use mathlib.Core.Path.{_∙_}
 use Rattle.ticks.proofs.Answers.{run-chain-refuses, run-long, run-asks, run-answers}
 use Rattle.ticks.proofs.deadline_run.Statement.{statement}
 use Rattle.ticks.proofs.deadline_run.Tie as tie
-use Rattle.ticks.proofs.deadline_run.Reads as reads
-use Rattle.ticks.proofs.deadline_run.Lts as lts
-use Rattle.sizing.proofs.checked_for_run.Reads as checked-for-run-reads
-use Rattle.ticks.proofs.ran.Reads as ran-reads
-use Rattle.ticks.proofs.refused.Reads as refused-reads
 
--- src/lib.rt:65:9
 checked-for-run-requires : tie.Need-checked-for-run-requires
 checked-for-run-requires c κs = search needs
 
--- src/lib.rt:67:9
 refused-requires : tie.Need-refused-requires
 refused-requires c κs = search needs
 
--- src/lib.rt:67:9
 returns : tie.Need-returns
 returns c = c .refused .ensures ∙ run-chain-refuses _ _ (c .before .before .before .checked-for-run .ensures) (c .before .if1 .taken)
 
--- src/lib.rt:70:9
 refused-requires-2 : tie.Need-refused-requires-2
 refused-requires-2 c κs = search needs
 
--- src/lib.rt:70:9
 returns-2 : tie.Need-returns-2
 returns-2 c = c .refused2 .ensures ∙ run-long _ _ (c .before .before .before .before .checked-for-run .ensures) (c .before .before .if1 .left) (c .before .if2 .taken)
 
--- src/lib.rt:72:5
 ran-requires : tie.Need-ran-requires
 ran-requires c κs = run-asks _ _ (c .before .before .before .checked-for-run .ensures) (c .before .if1 .left) (c .if2 .left)
 
--- src/lib.rt:62:1
 returns-3 : tie.Need-returns-3
 returns-3 c = run-answers _ _ (c .before .before .before .before .checked-for-run .ensures) (c .before .before .if1 .left) (c .before .if2 .left) (c .ran .ensures)
 

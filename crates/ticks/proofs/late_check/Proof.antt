@@ -1,11 +1,8 @@
 use Prim.Native.Nat.{_+_, _-_}
-use native.Mathlib.Omega.{arith}
 use borrow.Author.Needs.{needs}
 use Rattle.ticks.specs.Late.{late-clock, Unspent, unspent-none, unspent-more, unspent-found, unspent-end}
 use Rattle.ticks.proofs.late_check.Statement.{statement}
 use Rattle.ticks.proofs.late_check.Tie as tie
-use Rattle.ticks.proofs.late_check.Reads as reads
-use Rattle.ticks.proofs.late_check.Lts as lts
 
 abbrev Inv-loop : tie.InvT-loop
 Inv-loop run n i₀ i = Unspent n run i
@@ -13,47 +10,36 @@ Inv-loop run n i₀ i = Unspent n run i
 abbrev μ-loop : tie.MeasureT-loop
 μ-loop run n i₀ i = n + 1 - i
 
--- src/lib.rt:93:9
 returns : tie.Need-returns Inv-loop μ-loop
 returns c = late-clock _ _ (c .if1 .taken)
 
--- src/lib.rt:98:13
 cast-n : tie.Need-cast-n Inv-loop μ-loop
 cast-n c = search needs
 
--- src/lib.rt:100:5
 loop-holds : tie.Need-loop-holds Inv-loop μ-loop
 loop-holds c = unspent-none _ _
 
--- src/lib.rt:101:12
 mul-if2 : tie.Need-mul-if2 Inv-loop μ-loop
 mul-if2 c = search needs
 
--- src/lib.rt:101:12
 element-copy-out-if2 : tie.Need-element-copy-out-if2 Inv-loop μ-loop
 element-copy-out-if2 c = search needs
 
--- src/lib.rt:104:24
 cast-t13 : tie.Need-cast-t13 Inv-loop μ-loop
 cast-t13 c = search needs
 
--- src/lib.rt:102:13
 returns-2 : tie.Need-returns-2 Inv-loop μ-loop
 returns-2 c = unspent-found _ (c .before .before .before .loop .inv) (c .before .before .before .before .before .if1 .left) (c .before .before .loop-test .taken) (c .if2 .taken)
 
--- src/lib.rt:107:9
 add-i : tie.Need-add-i Inv-loop μ-loop
 add-i c = search needs
 
--- src/lib.rt:100:5
 loop-less : tie.Need-loop-less Inv-loop μ-loop
 loop-less c = search needs
 
--- src/lib.rt:100:5
 loop-again : tie.Need-loop-again Inv-loop μ-loop
 loop-again c = unspent-more (c .before .before .before .loop .inv) (c .before .before .loop-test .taken) (c .if2 .left)
 
--- src/lib.rt:88:1
 returns-3 : tie.Need-returns-3 Inv-loop μ-loop
 returns-3 c = unspent-end _ (c .before .loop .inv) (c .before .before .before .if1 .left) (c .loop-test .left)
 

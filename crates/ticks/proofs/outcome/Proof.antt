@@ -1,18 +1,13 @@
 use Rattle.ticks.specs.Left.{outcome-clean, outcome-overflowed, outcome-undated}
 use Rattle.ticks.proofs.outcome.Statement.{statement}
 use Rattle.ticks.proofs.outcome.Tie as tie
-use Rattle.ticks.proofs.outcome.Reads as reads
-use Rattle.ticks.proofs.outcome.Lts as lts
 
--- src/lib.rt:195:9
 returns : tie.Need-returns
 returns c = outcome-clean _ _ _ (c .if1 .taken)
 
--- src/lib.rt:198:9
 returns-2 : tie.Need-returns-2
 returns-2 c = outcome-overflowed _ _ _ (c .before .if1 .left) (c .if2 .taken)
 
--- src/lib.rt:191:1
 returns-3 : tie.Need-returns-3
 returns-3 c = outcome-undated _ _ _ (c .before .if1 .left) (c .if2 .left)
 

@@ -4,55 +4,37 @@ use Rattle.state.specs.Checks.{analysed-run}
 use Rattle.ticks.proofs.Answers.{few, tick-chain-refuses, tick-state-refuses, tick-late, tick-asks, tick-answers}
 use Rattle.ticks.proofs.tick.Statement.{statement}
 use Rattle.ticks.proofs.tick.Tie as tie
-use Rattle.ticks.proofs.tick.Reads as reads
-use Rattle.ticks.proofs.tick.Lts as lts
-use Rattle.sizing.proofs.checked_for_run.Reads as checked-for-run-reads
-use Rattle.state.proofs.state_check.Reads as state-check-reads
-use Rattle.ticks.proofs.late_check.Reads as late-check-reads
-use Rattle.ticks.proofs.refused.Reads as refused-reads
-use Rattle.ticks.proofs.ticked.Reads as ticked-reads
 
--- src/lib.rt:45:9
 checked-for-run-requires : tie.Need-checked-for-run-requires
 checked-for-run-requires c κs = search needs
 
--- src/lib.rt:47:9
 refused-requires : tie.Need-refused-requires
 refused-requires c κs = search needs
 
--- src/lib.rt:47:9
 returns : tie.Need-returns
 returns c = c .refused .ensures ∙ tick-chain-refuses _ _ (c .before .before .before .checked-for-run .ensures) (c .before .if1 .taken)
 
--- src/lib.rt:49:9
 state-check-requires : tie.Need-state-check-requires
 state-check-requires c κs = analysed-run _ (c .before .before .checked-for-run .ensures) (c .if1 .left)
 
--- src/lib.rt:51:9
 refused-requires-2 : tie.Need-refused-requires-2
 refused-requires-2 c κs = search needs
 
--- src/lib.rt:51:9
 returns-2 : tie.Need-returns-2
 returns-2 c = c .refused2 .ensures ∙ tick-state-refuses _ _ (c .before .before .before .before .before .before .checked-for-run .ensures) (c .before .before .before .before .if1 .left) (c .before .before .before .state-check .ensures) (c .before .if2 .taken)
 
--- src/lib.rt:53:9
 late-check-requires : tie.Need-late-check-requires
 late-check-requires c κs = few _ (c .before .before .before .before .before .checked-for-run .ensures) (c .before .before .before .if1 .left)
 
--- src/lib.rt:55:9
 refused-requires-3 : tie.Need-refused-requires-3
 refused-requires-3 c κs = search needs
 
--- src/lib.rt:55:9
 returns-3 : tie.Need-returns-3
 returns-3 c = c .refused3 .ensures ∙ tick-late _ _ (c .before .before .before .before .before .before .before .before .before .checked-for-run .ensures) (c .before .before .before .before .before .before .before .if1 .left) (c .before .before .before .before .before .before .state-check .ensures) (c .before .before .before .before .if2 .left) (c .before .before .before .late-check .ensures) (c .before .if3 .taken)
 
--- src/lib.rt:57:5
 ticked-requires : tie.Need-ticked-requires
 ticked-requires c κs = tick-asks _ _ (c .before .before .before .before .before .before .before .before .checked-for-run .ensures) (c .before .before .before .before .before .before .if1 .left) (c .before .before .before .before .before .state-check .ensures) (c .before .before .before .if2 .left) (c .before .before .late-check .ensures) (c .if3 .left)
 
--- src/lib.rt:42:1
 returns-4 : tie.Need-returns-4
 returns-4 c = tick-answers _ _ (c .before .before .before .before .before .before .before .before .before .checked-for-run .ensures) (c .before .before .before .before .before .before .before .if1 .left) (c .before .before .before .before .before .before .state-check .ensures) (c .before .before .before .before .if2 .left) (c .before .before .before .late-check .ensures) (c .before .if3 .left) (c .ticked .ensures)
 
