@@ -1,6 +1,6 @@
 -- The figures that the scope marks P, in one table under one statement: each row's answer is what the call answers.
 --   feed, permeate, flush    the factory chains
---   permeateWritten, feedConsuming c, largeCycle
+--   permeateWritten, feedConsuming c, feedWorking e B, largeCycle
 --                            what the figures change in them, and P10's chain
 --   table                    the questions with their answers
 --   same, allRight           the computed test
@@ -16,7 +16,7 @@ use Rattle.ardenquill.specs.Chains.{queue, made, factoryAnswer}
 use Rattle.ardenquill.specs.Runs.{fired, freshAnswer}
 use Rattle.ardenquill.specs.Histories.{after}
 use Rattle.chain.specs.declared.Chain.{Chain}
-use Rattle.figures.specs.Questions.{Question, analyse, checkedForRun, fresh, fire, immediate, answerTo}
+use Rattle.figures.specs.Questions.{Question, analyse, checkedForRun, fresh, fire, immediate, deadline, tick, deadlineRun, answerTo}
 
 -- the factory chains, and what the figures change in them
 abbrev pub feed : Chain
@@ -34,11 +34,15 @@ permeateWritten = made 5 (queue 4 7 3 12 ∷ queue 3 4 2 5 ∷ []) (1 ∷ 1 ∷ 
 abbrev pub feedConsuming : ℕ → Chain
 feedConsuming c = made 10 (queue 4 7 c 0 ∷ []) (2 ∷ [])
 
+abbrev pub feedWorking : ℕ → ℕ → Chain
+feedWorking e B = made 10 (queue 4 7 3 B ∷ []) (e ∷ [])
+
 abbrev pub largeCycle : Chain
 largeCycle = made 1000000 (queue 1 65521 65521 0 ∷ []) (1 ∷ [])
 
 -- an answer: number, place, n; for each queue x, y, minimum, naming count, capacity, sign and size of the margin; busy, cycle. One with a run
--- state: number, place, clock; the counts from the source on; what the queues hold; the work done
+-- state: number, place, clock; the counts from the source on; what the queues hold; the work done. One with an outcome: the outcome's number behind
+-- the place, and its values at the end. A deadline: number, place, the deadline
 abbrev pub table : List (Question × List ℕ)
 table =
     -- P1, and P6's 4
@@ -52,12 +56,24 @@ table =
     ∷ (checkedForRun permeateWritten, (8 ∷ 1 ∷ 0 ∷ 0 ∷ 0 ∷ []))
     ∷ (immediate permeateWritten 0, (8 ∷ 1 ∷ 0 ∷ 0 ∷ 0 ∷ 0 ∷ 0 ∷ 0 ∷ 0 ∷ 0 ∷ []))
     ∷ (immediate permeateWritten 4, (8 ∷ 1 ∷ 0 ∷ 0 ∷ 0 ∷ 0 ∷ 0 ∷ 0 ∷ 0 ∷ 0 ∷ []))
+    ∷ (deadlineRun permeateWritten 1, (8 ∷ 1 ∷ 0 ∷ 0 ∷ 0 ∷ 0 ∷ 0 ∷ 0 ∷ 0 ∷ 0 ∷ 0 ∷ []))
+    ∷ (tick permeateWritten (freshAnswer permeateWritten .run), (8 ∷ 1 ∷ 0 ∷ 0 ∷ 0 ∷ 0 ∷ 0 ∷ 0 ∷ 0 ∷ 0 ∷ 0 ∷ []))
+    ∷ (deadline permeateWritten 1 1, (8 ∷ 1 ∷ 0 ∷ []))
     -- P5: k = 0..4
     ∷ (immediate feed 0, (0 ∷ 0 ∷ 0 ∷ 0 ∷ 0 ∷ 0 ∷ 0 ∷ []))
     ∷ (immediate feed 1, (0 ∷ 0 ∷ 0 ∷ 1 ∷ 0 ∷ 4 ∷ 0 ∷ []))
     ∷ (immediate feed 2, (0 ∷ 0 ∷ 0 ∷ 2 ∷ 1 ∷ 5 ∷ 0 ∷ []))
     ∷ (immediate feed 3, (0 ∷ 0 ∷ 0 ∷ 3 ∷ 2 ∷ 6 ∷ 0 ∷ []))
     ∷ (immediate feed 4, (0 ∷ 0 ∷ 0 ∷ 4 ∷ 4 ∷ 4 ∷ 0 ∷ []))
+    -- P7: T = 34, 30, 0
+    ∷ (deadlineRun feed 34, (0 ∷ 0 ∷ 0 ∷ 34 ∷ 4 ∷ 4 ∷ 4 ∷ 0 ∷ []))
+    ∷ (deadlineRun feed 30, (0 ∷ 0 ∷ 0 ∷ 30 ∷ 3 ∷ 2 ∷ 6 ∷ 0 ∷ []))
+    ∷ (deadlineRun feed 0, (0 ∷ 0 ∷ 0 ∷ 0 ∷ 0 ∷ 0 ∷ 0 ∷ 0 ∷ []))
+    -- P8: load 28 of 30, yet an overflow at tick 40, queue 0, which a run of 40 ticks does not come to; clean to tick 90 with B = 12
+    ∷ (analyse (feedWorking 7 0), (0 ∷ 0 ∷ 1 ∷ 4 ∷ 30 ∷ 10 ∷ 4 ∷ 10 ∷ 0 ∷ 0 ∷ 28 ∷ 30 ∷ []))
+    ∷ (deadlineRun (feedWorking 7 0) 41, (0 ∷ 0 ∷ 0 ∷ 40 ∷ 4 ∷ 3 ∷ 7 ∷ 3 ∷ 40 ∷ 0 ∷ []))
+    ∷ (deadlineRun (feedWorking 7 0) 40, (0 ∷ 0 ∷ 0 ∷ 40 ∷ 4 ∷ 3 ∷ 7 ∷ 3 ∷ []))
+    ∷ (deadlineRun (feedWorking 7 12) 90, (0 ∷ 0 ∷ 0 ∷ 90 ∷ 9 ∷ 10 ∷ 6 ∷ 0 ∷ []))
     -- P9: c = τ is accepted, c = τ + 1 refused 5 at the place of c
     ∷ (analyse (feedConsuming 7), (0 ∷ 0 ∷ 1 ∷ 4 ∷ 70 ∷ 10 ∷ 7 ∷ 10 ∷ 0 ∷ 0 ∷ 8 ∷ 70 ∷ []))
     ∷ (analyse (feedConsuming 8), (5 ∷ 28 ∷ 0 ∷ 0 ∷ 0 ∷ []))
@@ -67,6 +83,11 @@ table =
     ∷ (fresh feed, (0 ∷ 0 ∷ 0 ∷ 0 ∷ 0 ∷ 0 ∷ 0 ∷ []))
     ∷ (fire feed (freshAnswer feed .run) 0, (0 ∷ 0 ∷ 0 ∷ 1 ∷ 0 ∷ 4 ∷ 0 ∷ []))
     ∷ (fire feed (freshAnswer feed .run) 1, (11 ∷ 1 ∷ 0 ∷ 0 ∷ 0 ∷ 0 ∷ 0 ∷ []))
+    -- the first tick, a run that is too long, and the deadline of the sink's first firing and of one that there is not
+    ∷ (tick feed (freshAnswer feed .run), (0 ∷ 0 ∷ 0 ∷ 1 ∷ 1 ∷ 0 ∷ 4 ∷ 0 ∷ []))
+    ∷ (deadlineRun feed 1000001, (9 ∷ 0 ∷ 0 ∷ 0 ∷ 0 ∷ 0 ∷ 0 ∷ 0 ∷ []))
+    ∷ (deadline feed 1 1, (0 ∷ 0 ∷ 20 ∷ []))
+    ∷ (deadline feed 1 0, (11 ∷ 1 ∷ 0 ∷ []))
     ∷ []
 
 -- whether two lists of numbers are the same
