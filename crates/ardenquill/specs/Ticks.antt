@@ -7,7 +7,7 @@ pub use Rattle.instants.specs.Checks.{longest, clockCheck, spentTest, tickCheck
 pub use Rattle.instants.specs.Refusals.{clock-exact, clock-silent, clock-only, FirstSpent, LateOrSpent, spent-exact, spent-silent, spent-only, length-exact, length-silent, length-only, tick-parts, tick-17, tick-9, tick-earlier, tick-accepts, Ticking, ticking-is, deadline-run-parts, deadline-run-9, deadline-run-earlier, deadline-run-accepts, ranAs, refusedAs, tick-ran, tick-refused, deadline-run-ran, deadline-run-refused}
 pub use Rattle.instants.specs.Runs.{onward-clean, onward-none, onward-then, instants-ticks, ticks-more}
 pub use Rattle.instants.specs.Kept.{Running, TickStep, Countable, tick-step}
-pub use Rattle.instants.specs.Fresh.{fresh-running, fresh-rests, run-is-ticks, Paced, fresh-paced, tick-paced}
+pub use Rattle.instants.specs.Fresh.{fresh-running, fresh-rests, run-is-ticks, Paced, fresh-paced, paced-countable, tick-paced}
 pub use Rattle.instants.specs.Best.{First, Best, choose-best, best-unique, choose-is, chosen-best, chosen-only, choose-shift, chosen-shift}
 pub use Rattle.instants.specs.Spill.{room-after-choice, finish-never-spills, ticks-never-spill, run-never-spills}
 unfoldable pub use Rattle.traces.specs.Trace.{tracing, sourceEntry, finishEntry, finishTrace, tickTrace, trace}

@@ -2,3 +2,4 @@ pub mod Replay
 pub mod Demand3
 pub mod Replayed
 pub mod Figures
+pub mod Deadlines

@@ -1,0 +1,153 @@
+-- "Deadlines .. and both kinds of run" (demand 2), and demand 3 of deadline runs, of what the public calls answer.
+--   c, T                     a chain, and a number of ticks
+--   DeadlineRuns c T         the deadline run of T ticks is not refused; deadline-runs-is: exactly when
+--   carryOn r f, ticksFrom c T s
+--                            T ticks from s, as their calls answer them: the first refusal, or the first outcome that is not clean, ends it
+--   by-ticks                 the run answers what so many ticks from a fresh start answer
+--   carried-on               a run of a+b ticks is a run of a ticks, carried on for b
+--   fired c T                the nodes that fired in the run, in order
+--   run-fires, run-state     manual firing accepts each of them, and after them counts and contents are the run's
+--   run-counted, run-balance, run-naming
+--                            so a node's count is how often it fired, each queue holds what was put in less what was taken out, and a producer that
+--                            fired as often as 01 names has shown the minimum
+--   run-overflow             an overflow is of the source's production, into queue 0
+--   thirteen                 13 is the number of the runs that end for want of a deadline
+use mathlib.Core.Path.{_≡_, refl, sym, ap, subst, _∙_}
+use mathlib.Core.Logic.{_↔_}
+use mathlib.Core.List.{List, [], _∷_}
+use Prim.Native.Nat.{ℕ, zero, suc, _+_, _*_, _≤_, _<_}
+use native.Mathlib.Omega.{arith}
+use lib.ListN.{length, getD}
+use Rattle.ardenquill.specs.Chains.{rowOf}
+use Rattle.ardenquill.specs.Analyses.{start, Accepted, analyse-accepts, Enough}
+use Rattle.ardenquill.specs.Runs.{countAt, heldAt, freshRun, freshAnswer, fresh-state}
+use Rattle.ardenquill.specs.Histories.{times}
+use Rattle.ardenquill.specs.Ticks.{numberOf, valuesOf, kindOf, goes, onward, tick, ticks, instants, longest, tickAnswer, deadlineRunAnswer, outcomeOf, ranAs, Ticking, ticking-is, tick-ran, deadline-run-accepts, deadline-run-ran, run-is-ticks, ticks-more, Paced, fresh-paced, tick-paced, paced-countable, tick-step, nodes, trace, resting, run-traced, run-never-spills}
+use Rattle.chain.specs.declared.Chain.{Chain}
+use Rattle.state.specs.declared.Run.{Run}
+use Rattle.instants.specs.declared.Outcome.{Outcome}
+use Rattle.instants.specs.declared.Outcome.the-variants.{Clean, Overflowed, NoDeadline}
+use Rattle.instants.specs.declared.Ticked.{Ticked}
+use Rattle.instants.specs.declared.TickAnswer.{TickAnswer}
+use Rattle.promises.specs.Replay.{replayAnswer, Fires, fires-is, fires-state}
+use Rattle.promises.specs.Demand3 as demand
+use Rattle.promises.specs.Demand3.{line, Sometime}
+
+-- the deadline run is not refused
+abbrev pub DeadlineRuns : Chain → ℕ → Type 0
+DeadlineRuns c T = deadlineRunAnswer c T .number ≡ 0
+
+-- "T at most 1,000,000", of a chain that is accepted and whose capacities are not below the minimum
+pub deadline-runs-is : (c : Chain) (T : ℕ) → DeadlineRuns c T ↔ ((Accepted c × ((j : ℕ) → j < c .n → Enough c j)) × (T ≤ longest))
+unfolding deadlineRunAnswer outcomeOf
+deadline-runs-is c T = deadline-run-accepts c T
+
+-- what follows an answer: nothing after a refusal, or after an outcome that is not clean
+unfoldable pub after : ℕ → Outcome → TickAnswer → (Run → TickAnswer) → TickAnswer
+after zero Clean r f = f (r .run)
+after zero (Overflowed t q) r f = r
+after zero (NoDeadline t i) r f = r
+after (suc n) o r f = r
+
+unfoldable pub carryOn : TickAnswer → (Run → TickAnswer) → TickAnswer
+unfolding after
+carryOn r f = after (r .number) (r .outcome) r f
+
+-- tick after tick, as the calls answer
+unfoldable pub ticksFrom : Chain → ℕ → Run → TickAnswer
+unfolding carryOn tickAnswer
+ticksFrom c zero s = record { number = 0; place = 0; outcome = Clean; run = s }
+ticksFrom c (suc T) s = carryOn (tickAnswer c s) (ticksFrom c T)
+
+-- an answer that is not refused goes on as what it answers does
+carried : (x : Ticked) (f : Run → TickAnswer) (g : Run → Ticked) → (x .outcome ≡ Clean → f (x .run) ≡ ranAs (g (x .run))) → carryOn (ranAs x) f ≡ ranAs (onward x g)
+unfolding carryOn onward
+carried x f g next = by (x .outcome) next
+  where
+    by : (o : Outcome) → (o ≡ Clean → f (x .run) ≡ ranAs (g (x .run))) → after 0 o (record { number = 0; place = 0; outcome = o; run = x .run }) f ≡ ranAs (goes o (x .run) g)
+    by Clean h = h refl
+    by (Overflowed t q) h = refl
+    by (NoDeadline t i) h = refl
+
+module _ {c : Chain} (enough : (j : ℕ) → j < c .n → Enough c j) where
+  -- no check refuses a tick of a run within the limit
+  ticking : {s : Run} → Paced c s → s .clock < longest → Ticking c s
+  ticking p l = record { chain = p .running .chain; enough = enough; state = p .running .state; clock = l; countable = paced-countable p (omega arith) }
+
+  ticks-answer : (T : ℕ) {s : Run} → Paced c s → s .clock + T ≤ longest → ticksFrom c T s ≡ ranAs (ticks c T s)
+  unfolding ticksFrom ticks
+  ticks-answer zero p l = refl
+  ticks-answer (suc T) {s} p l =
+      ap (λ (r : TickAnswer). carryOn r (ticksFrom c T)) (tick-ran c s (ticking-is c s .1 (ticking p (omega arith))))
+      ∙ carried (tick c s) (ticksFrom c T) (ticks c T) (λ h. let q : Paced c (tick c s .run) = tick-paced p h in ticks-answer T q (omega (arith, tick-step (p .running) h .clock)))
+
+module _ (c : Chain) (T : ℕ) (ran : DeadlineRuns c T) where
+  parts : (Accepted c × ((j : ℕ) → j < c .n → Enough c j)) × (T ≤ longest)
+  parts = deadline-runs-is c T .0 ran
+
+  accepted : Accepted c
+  accepted = parts .0 .0
+
+  -- what it answers is what its instants leave
+  answer-is : deadlineRunAnswer c T ≡ ranAs (instants c T (freshRun c))
+  answer-is = deadline-run-ran c T (deadline-run-accepts c T .1 parts)
+
+  -- "a run of T ticks from a fresh start": T ticks, one after the other
+  pub by-ticks : deadlineRunAnswer c T ≡ ticksFrom c T (freshAnswer c .run)
+  unfolding freshRun
+  by-ticks =
+      answer-is
+      ∙ ap ranAs (run-is-ticks accepted T)
+      ∙ sym (ticks-answer (parts .0 .1) T (fresh-paced accepted) (omega (arith, parts .1)))
+      ∙ ap (ticksFrom c T) (sym (fresh-state c (analyse-accepts c .1 accepted)))
+
+  -- the nodes that fired in it, in order
+  abbrev pub fired : List ℕ
+  fired = nodes (trace c T (freshRun c))
+
+  -- manual firing accepts each of them
+  pub run-fires : Fires c fired
+  run-fires = fires-is c fired .1 (accepted, run-traced accepted T (parts .1) .0)
+
+  -- and after them counts and contents are the run's
+  pub run-state : replayAnswer c fired .run ≡ resting (deadlineRunAnswer c T .run)
+  run-state = fires-state c fired run-fires ∙ run-traced accepted T (parts .1) .1 ∙ ap (λ (a : TickAnswer). resting (a .run)) (sym answer-is)
+
+  -- a count is how often the node fired
+  pub run-counted : (i : ℕ) → i ≤ c .n → countAt (deadlineRunAnswer c T .run) i ≡ times i fired
+  run-counted i l = ap (λ (s : Run). countAt s i) (sym run-state) ∙ demand.counted c fired run-fires i l
+
+  -- "each queue holds what its producer's firings put in less what its consumer's took out"
+  pub run-balance : (j : ℕ) → j < c .n → start (rowOf c j) + rowOf c j .produce * times j fired ≡ heldAt (deadlineRunAnswer c T .run) j + rowOf c j .consume * times (suc j) fired
+  run-balance j l = subst (λ (s : Run). start (rowOf c j) + rowOf c j .produce * times j fired ≡ heldAt s j + rowOf c j .consume * times (suc j) fired) run-state (demand.balance c fired run-fires j l)
+
+  -- "in no permitted order can a producer fire as often as 01 names for its queue unless that queue has held at least the minimum"
+  pub run-naming : (j : ℕ) → j < c .n → line c j .by ≤ countAt (deadlineRunAnswer c T .run) j → Sometime c fired (λ s. line c j .minimum ≤ heldAt s j)
+  run-naming j l often = demand.naming c fired run-fires j l (omega (arith, run-counted j (omega arith)))
+
+  -- "overflowed at (tick, queue)" is always at queue 0: no firing that has worked its execution time is stopped by a full queue
+  pub run-overflow : (t q : ℕ) → numberOf (deadlineRunAnswer c T .outcome) ≡ 0 → valuesOf (deadlineRunAnswer c T .outcome) ≡ t ∷ q ∷ [] → q ≡ 0
+  run-overflow t q = by (deadlineRunAnswer c T .outcome) refl
+    where
+      by : (o : Outcome) → deadlineRunAnswer c T .outcome ≡ o → numberOf o ≡ 0 → valuesOf o ≡ t ∷ q ∷ [] → q ≡ 0
+      by Clean e z v = absurd (let n : _≡_ {A = ℕ} 0 2 = ap length v in omega arith)
+      by (Overflowed u r) e z v = sym (ap (λ (l : List ℕ). getD l 1 0) v) ∙ run-never-spills (parts .0 .1) accepted T u r (ap (λ (a : TickAnswer). a .outcome) (sym answer-is) ∙ e)
+      by (NoDeadline u i) e z v = absurd (omega arith)
+
+-- "a run of a+b ticks is a run of a ticks carried on for b"
+module _ (c : Chain) (a b : ℕ) (ran : DeadlineRuns c (a + b)) where
+  -- the shorter run is not refused either
+  shorter : DeadlineRuns c a
+  shorter = deadline-runs-is c a .1 (parts c (a + b) ran .0, omega (arith, parts c (a + b) ran .1))
+
+  pub carried-on : deadlineRunAnswer c (a + b) ≡ ranAs (onward (instants c a (freshRun c)) (ticks c b))
+  carried-on =
+      let k : Accepted c = accepted c (a + b) ran in
+      answer-is c (a + b) ran
+      ∙ ap ranAs (run-is-ticks k (a + b) ∙ ticks-more c a b (freshRun c) ∙ ap (λ (x : Ticked). onward x (ticks c b)) (sym (run-is-ticks k a)))
+
+-- 13 is the number of exactly the outcomes that are neither clean nor an overflow; a clean one has no values
+pub thirteen : (o : Outcome) → (numberOf o ≡ 13) ↔ (kindOf o ≡ 2)
+thirteen Clean = (λ e. absurd (omega arith), λ e. absurd (omega arith))
+thirteen (Overflowed t q) = (λ e. absurd (omega arith), λ e. absurd (omega arith))
+thirteen (NoDeadline t i) = (λ e. refl, λ e. refl)
