@@ -11,7 +11,8 @@ pub use Rattle.instants.specs.Fresh.{fresh-running, fresh-rests, run-is-ticks, 
 pub use Rattle.instants.specs.Best.{First, Best, choose-best, best-unique, choose-is, chosen-best, chosen-only, choose-shift, chosen-shift}
 pub use Rattle.instants.specs.Spill.{room-after-choice, finish-never-spills, ticks-never-spill, run-never-spills}
 unfoldable pub use Rattle.traces.specs.Trace.{tracing, sourceEntry, finishEntry, finishTrace, tickTrace, trace}
-pub use Rattle.traces.specs.Trace.{Entry, nodes, resting, Replays, tick-traced, traced, run-traced, run-counted, run-balance, run-naming}
+pub use Rattle.traces.specs.Trace.{Entry, nodes, resting, Replays}
+pub use Rattle.traces.specs.Traced.{tick-traced, traced, run-traced, run-counted, run-balance, run-naming}
 unfoldable pub use Rattle.traces.specs.Rising.{Rising}
 pub use Rattle.traces.specs.Rising.{tick-rising, trace-rising, run-rising}
 pub use Rattle.tickpast.specs.Deadlines.{deadline-alike, index-alike}

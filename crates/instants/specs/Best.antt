@@ -1,4 +1,5 @@
 -- The node that works is the best (01, Firing): over threshold, no deadline earlier, none equal nearer the sink.
+--   tie                    of nodes with one deadline the one nearest the sink is chosen
 --   due, able              the deadline of each node's next firing, and which nodes may fire
 --   First due r j          N_r goes before N_j
 --   Best due able n r      of the nodes 1 to n, r is the one to choose; 0 where none is able
@@ -22,6 +23,11 @@ use Rattle.state.specs.Checks.{over}
 use Rattle.state.specs.declared.Run.{Run}
 use Rattle.deadlines.specs.Deadline.{deadline}
 use Rattle.instants.specs.Steps.{next, asEarly, choose, chosen}
+
+-- "ties to the one nearest the sink"
+pub tie : choose (λ i. 5) (λ i. true) 3 ≡ 3
+unfolding choose
+tie = refl
 
 -- N_r is a node other than the source, is due no later than N_j, and is due before it where N_j is nearer the sink
 pub record First (due : ℕ → ℕ) (r j : ℕ) : Type 0 where

@@ -1,4 +1,5 @@
 pub mod Steps
+pub mod Figures
 pub mod Checks
 pub mod Refusals
 pub mod Best
@@ -6,4 +7,3 @@ pub mod Runs
 pub mod Kept
 pub mod Fresh
 pub mod Spill
-pub mod Figures

@@ -9,7 +9,7 @@ use Rattle.chain.specs.Factory.{queue, made, factoryAnswer}
 use Rattle.chain.specs.declared.Chain.{Chain}
 use Rattle.state.specs.State.{freshRun}
 use Rattle.state.specs.declared.Run.{Run}
-use Rattle.instants.specs.Figures.{feed, seven}
+use Rattle.instants.specs.Figures.{feed, feedWorking}
 use Rattle.instants.specs.Steps.{tick, ticks, valuesOf}
 use Rattle.traces.specs.Trace.{tickTrace, trace}
 
@@ -19,7 +19,7 @@ unfolding trace factoryAnswer freshRun
 feed-34 = refl
 
 -- P8: the source's 5th firing overflows at tick 40, when the sink has worked 3 of its 7 ticks
-pub seven-41 : trace seven 41 (freshRun seven) ≡ (0, 0) ∷ (10, 0) ∷ (17, 1) ∷ (20, 0) ∷ (27, 1) ∷ (30, 0) ∷ (37, 1) ∷ []
+pub seven-41 : trace (feedWorking 7 0) 41 (freshRun (feedWorking 7 0)) ≡ (0, 0) ∷ (10, 0) ∷ (17, 1) ∷ (20, 0) ∷ (27, 1) ∷ (30, 0) ∷ (37, 1) ∷ []
 unfolding trace factoryAnswer freshRun
 seven-41 = refl
 

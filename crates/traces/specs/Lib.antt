@@ -1,3 +1,4 @@
 pub mod Trace
-pub mod Rising
 pub mod Figures
+pub mod Traced
+pub mod Rising
