@@ -1,11 +1,25 @@
 -- What the steps of a tick keep of a state that passes 17 (01, Firing and Numbers a call may refuse with).
---   Running c s                an accepted chain, and a state of it that passes 17
---   fired-running              a firing that manual firing accepts leaves such a state
---   chosen-low, chosen-over    the node that works is a node of the chain, and over threshold
---   SourceStep c s u           what the source's step leaves where it is clean
---   sourced-clean              it leaves that
+--   Running c s                an accepted chain, and a state of it that passes 17; running-slots: it has a slot for each node and queue
+--   fired-running              a firing of a node that may fire, with room, leaves such a state
+--   room-of                    a queue that is not full for N_i has room for it
+--   unclean-overflow, -undated no outcome that ends a run is clean
+--   source-cases, finish-cases what holds of each way in which the source's step, and the effect of a firing, end holds of them
+--   sourced-others, -held, -stays
+--                              the source's step changes no other node or queue, and nothing at all where it is not clean
+--   SourceStep c s u           what it leaves where it is clean; sourced-clean: it does; source-may: the source may fire where there is room
+--   onward-cases               what goes on was clean
 --   begun-clean                the source's step and 13 leave what the source's step does
---   worked-…                   one tick of work
+--   chosen-low, chosen-over    the node that works is a node of the chain, and over threshold
+--   ended-none, ended-one      which node's work is done
+--   worked-counts, -held, -clock, -other, -same
+--                              what one tick of work leaves
+--   works-running, works-on    a firing that is not finished: the state passes 17, and nothing takes effect
+--   works-ends, cleared-running, finish-may
+--                              one that is: its effect, the state with its work cleared, and that its node may fire
+--   tick-parts                 a tick is the source's step and 13, and then the work of the node chosen and its effect
+--   TickStep c s t, tick-step  what a clean tick leaves
+--   fired-clock                a firing does not move the clock
+--   Countable c s              every count can grow
 use mathlib.Core.Path.{_≡_, refl, sym, ap, subst, _∙_}
 use mathlib.Core.Logic.{_≢_, by-cases}
 use mathlib.Core.Bool.{Bool, true, false, cond}
@@ -81,6 +95,37 @@ unclean-overflow e = let z : _≡_ {A = ℕ} 1 0 = ap kindOf e in absurd (omega 
 pub unclean-undated : {t i : ℕ} → NoDeadline t i ≡ Clean → ⊥
 unclean-undated e = let z : _≡_ {A = ℕ} 2 0 = ap kindOf e in absurd (omega arith)
 
+-- the source's step: its production does not fit, or it fires, or it rests
+pub source-cases : (c : Chain) (s : Run) (P : Ticked → Type 0) → (cramped c s 0 ≡ true → P (overflowed s (s .clock) 0)) → (cramped c s 0 ≡ false → P (clean (fired c s 0))) → P (clean s) → P (sourced c s)
+unfolding sourced
+source-cases c s P spills fires rests = by (divides (c .period) (s .clock)) (cramped c s 0) refl
+  where
+    by : (d x : Bool) → cramped c s 0 ≡ x → P (cond d (cond x (overflowed s (s .clock) 0) (clean (fired c s 0))) (clean s))
+    by true true e = spills e
+    by true false e = fires e
+    by false x e = rests
+
+-- the effect of N_(j+1)'s firing: its production does not fit, or it takes effect
+pub finish-cases : (c : Chain) (w : Run) (j : ℕ) (P : Ticked → Type 0) → (cramped c w (suc j) ≡ true → P (overflowed w (w .clock) (suc j))) → (cramped c w (suc j) ≡ false → P (clean (fired c (withDone w j 0) (suc j))))
+    → P (finish c w (suc j))
+unfolding finish
+finish-cases c w j P spills fires = by (cramped c w (suc j)) refl
+  where
+    by : (x : Bool) → cramped c w (suc j) ≡ x → P (cond x (overflowed w (w .clock) (suc j)) (clean (fired c (withDone w j 0) (suc j))))
+    by true e = spills e
+    by false e = fires e
+
+-- the source's step changes no other node's count, and no other queue
+pub sourced-others : (c : Chain) (s : Run) (j : ℕ) → countAt (sourced c s .run) (suc j) ≡ countAt s (suc j)
+sourced-others c s j = source-cases c s (λ x. countAt (x .run) (suc j) ≡ countAt s (suc j)) (λ e. refl) (λ e. count-other c s 0 (suc j) (λ z. omega arith)) refl
+
+pub sourced-held : (c : Chain) (s : Run) (j : ℕ) → 0 < j → heldAt (sourced c s .run) j ≡ heldAt s j
+sourced-held c s j l = source-cases c s (λ x. heldAt (x .run) j ≡ heldAt s j) (λ e. refl) (λ e. held-other c s 0 j (λ z. omega arith) (λ z. omega arith)) refl
+
+-- an outcome of it leaves the state as it was
+pub sourced-stays : (c : Chain) (s : Run) → (sourced c s .outcome ≡ Clean → ⊥) → sourced c s .run ≡ s
+sourced-stays c s = source-cases c s (λ x. (x .outcome ≡ Clean → ⊥) → x .run ≡ s) (λ e n. refl) (λ e n. absurd (n refl)) (λ n. refl)
+
 -- what the source's step leaves where it is clean
 pub record SourceStep (c : Chain) (s u : Run) : Type 0 where
   pub running : Running c u
@@ -108,15 +153,7 @@ module _ {c : Chain} {s : Run} (r : Running c s) where
   }
 
   pub sourced-clean : sourced c s .outcome ≡ Clean → SourceStep c s (sourced c s .run)
-  unfolding sourced
-  sourced-clean = by (divides (c .period) (s .clock)) (cramped c s 0) refl
-    where
-      by : (d x : Bool) → cramped c s 0 ≡ x
-          → (cond d (cond x (overflowed s (s .clock) 0) (clean (fired c s 0))) (clean s)) .outcome ≡ Clean
-          → SourceStep c s ((cond d (cond x (overflowed s (s .clock) 0) (clean (fired c s 0))) (clean s)) .run)
-      by true true e h = absurd (unclean-overflow h)
-      by true false e h = source-fires (room-of c s 0 e)
-      by false x e h = source-rests
+  sourced-clean = source-cases c s (λ x. x .outcome ≡ Clean → SourceStep c s (x .run)) (λ e h. absurd (unclean-overflow h)) (λ e h. source-fires (room-of c s 0 e)) (λ h. source-rests)
 
 -- what goes on was clean
 pub onward-cases : (r : Ticked) (f : Run → Ticked) → onward r f .outcome ≡ Clean → (r .outcome ≡ Clean) × ((f (r .run) .outcome ≡ Clean) × (onward r f ≡ f (r .run)))
@@ -288,11 +325,8 @@ module _ {c : Chain} {s u : Run} (k : SourceStep c s u) where
   rests i r = record { running = r; clock = worked-clock u i ∙ ap (λ (t : ℕ). t + 1) (k .clock); counts = λ j l. unchanged (worked u i) (worked-counts u i) j }
 
   module _ (j : ℕ) (l : j < c .n) (all : doneAt u j + 1 ≡ workOf c j) (o : Over c u (suc j)) where
-    ends-step : (x : Bool) → cramped c (worked u (suc j)) (suc j) ≡ x
-        → (cond x (overflowed (worked u (suc j)) (worked u (suc j) .clock) (suc j)) (clean (fired c (withDone (worked u (suc j)) j 0) (suc j)))) .outcome ≡ Clean
-        → TickStep c s ((cond x (overflowed (worked u (suc j)) (worked u (suc j) .clock) (suc j)) (clean (fired c (withDone (worked u (suc j)) j 0) (suc j)))) .run)
-    ends-step true e h = absurd (unclean-overflow h)
-    ends-step false e h =
+    fires-step : cramped c (worked u (suc j)) (suc j) ≡ false → TickStep c s (fired c (withDone (worked u (suc j)) j 0) (suc j))
+    fires-step e =
         let v : Run = withDone (worked u (suc j)) j 0 in
         let other : countAt u (suc j) ≡ countAt s (suc j) = k .others (suc j) (omega arith) in
         let r : Running c v = cleared-running (k .running) j l all in
@@ -308,8 +342,7 @@ module _ {c : Chain} {s u : Run} (k : SourceStep c s u) where
         }
 
     ends : finish c (worked u (suc j)) (suc j) .outcome ≡ Clean → TickStep c s (finish c (worked u (suc j)) (suc j) .run)
-    unfolding finish
-    ends = ends-step (cramped c (worked u (suc j)) (suc j)) refl
+    ends = finish-cases c (worked u (suc j)) j (λ x. x .outcome ≡ Clean → TickStep c s (x .run)) (λ e h. absurd (unclean-overflow h)) (λ e h. fires-step e)
 
   -- the whole step of work, of the node that was chosen
   works-step : (i : ℕ) → i ≤ c .n → ((j : ℕ) → i ≡ suc j → Over c u (suc j)) → finished c (worked u i) .outcome ≡ Clean → TickStep c s (finished c (worked u i) .run)

@@ -26,14 +26,14 @@ use Rattle.sizing.specs.Sizes.{capacityOf}
 use Rattle.sizing.specs.Checks.{Enough, enough-capacity}
 use Rattle.sizing.specs.Accepted.{Accepted}
 use Rattle.state.specs.State.{countAt, heldAt, doneAt, freshRun}
-use Rattle.state.specs.Fired.{fired, Over, Room, Balance}
+use Rattle.state.specs.Fired.{Over, Room, Balance}
 use Rattle.state.specs.Checks.{over-true, cramped, StateSound, room-silent}
 use Rattle.state.specs.declared.Run.{Run}
 use Rattle.deadlines.specs.Deadline.{earlier, deadline, deadline-mono}
 use Rattle.instants.specs.Best.{chosen-best}
 use Rattle.instants.specs.Fresh.{fresh-running, run-is-ticks}
-use Rattle.instants.specs.Kept.{Running, sourced-clean, begun-clean, chosen-low, worked-held, works-on, works-ends, tick-parts, tick-step}
-use Rattle.instants.specs.Steps.{kindOf, tickOf, atOf, next, clean, overflowed, undated, goes, onward, withDone, divides, sourced, lacking, chosen, worked, finish, finished, begun, tick, ticks, instants}
+use Rattle.instants.specs.Kept.{source-cases, finish-cases, Running, sourced-clean, begun-clean, chosen-low, worked-held, works-on, works-ends, tick-parts, tick-step}
+use Rattle.instants.specs.Steps.{kindOf, tickOf, atOf, next, clean, undated, goes, onward, sourced, lacking, chosen, worked, finish, finished, begun, tick, ticks, instants}
 use Rattle.instants.specs.declared.Outcome.{Outcome}
 use Rattle.instants.specs.declared.Outcome.the-variants.{Clean, Overflowed, NoDeadline}
 use Rattle.instants.specs.declared.Ticked.{Ticked}
@@ -80,12 +80,9 @@ module _ {c : Chain} {u : Run} (r : Running c u) (enough : (j : ℕ) → j < c .
   fits j e = subst (Room c u) e (room-after-choice u (r .chain) enough (r .state) (omega (arith, e)))
 
   finish-clean : (j : ℕ) → chosen c u ≡ suc j → finish c (worked u (suc j)) (suc j) .outcome ≡ Clean
-  unfolding finish
-  finish-clean j e = by (cramped c (worked u (suc j)) (suc j)) (cramped-worked c u (suc j) (fits j e))
-    where
-      by : (x : Bool) → x ≡ false → (cond x (overflowed (worked u (suc j)) (worked u (suc j) .clock) (suc j)) (clean (fired c (withDone (worked u (suc j)) j 0) (suc j)))) .outcome ≡ Clean
-      by true z = absurd (let q : _≡_ {A = ℕ} 1 0 = ap (λ (b : Bool). cond b 1 0) z in omega arith)
-      by false z = refl
+  finish-clean j e = finish-cases c (worked u (suc j)) j (λ x. x .outcome ≡ Clean)
+      (λ full. absurd (let q : _≡_ {A = ℕ} 1 0 = ap (λ (b : Bool). cond b 1 0) (sym full ∙ cramped-worked c u (suc j) (fits j e)) in omega arith))
+      (λ room. refl)
 
   pub finish-fits : finished c (worked u (chosen c u)) .outcome ≡ Clean
   finish-fits = at (chosen c u) refl
@@ -110,13 +107,7 @@ over-undated e = let z : _≡_ {A = ℕ} 2 1 = ap kindOf e in absurd (omega arit
 
 -- an overflow of the source's step and 13 is the source's
 source-spills : (c : Chain) (s : Run) (t q : ℕ) → sourced c s .outcome ≡ Overflowed t q → (t ≡ s .clock) × (q ≡ 0)
-unfolding sourced
-source-spills c s t q = by (divides (c .period) (s .clock)) (cramped c s 0)
-  where
-    by : (d x : Bool) → (cond d (cond x (overflowed s (s .clock) 0) (clean (fired c s 0))) (clean s)) .outcome ≡ Overflowed t q → (t ≡ s .clock) × (q ≡ 0)
-    by true true e = over-values e
-    by true false e = absurd (over-clean e)
-    by false x e = absurd (over-clean e)
+source-spills c s t q = source-cases c s (λ x. x .outcome ≡ Overflowed t q → (t ≡ s .clock) × (q ≡ 0)) (λ full e. over-values e) (λ room e. absurd (over-clean e)) (λ e. absurd (over-clean e))
 
 -- what goes on overflows where what it goes on with does, or overflowed before
 onward-spills : (r : Ticked) (f : Run → Ticked) {P : Type 0} (t q : ℕ) → (r .outcome ≡ Overflowed t q → P) → (r .outcome ≡ Clean → f (r .run) .outcome ≡ Overflowed t q → P) → onward r f .outcome ≡ Overflowed t q → P

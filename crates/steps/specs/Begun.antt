@@ -18,42 +18,26 @@ use borrow.Author.Tests.{eq-eqb, ne-eqb}
 use Rattle.chain.specs.Refusals.{refused, Silent, number-of, lowest-is, test-exact}
 use Rattle.chain.specs.declared.Refusal.{Refusal}
 use Rattle.chain.specs.declared.Chain.{Chain}
-use Rattle.state.specs.State.{countAt, heldAt}
-use Rattle.state.specs.Fired.{fired, count-fired, held-other}
-use Rattle.state.specs.Checks.{over, cramped}
+use Rattle.state.specs.State.{countAt}
+use Rattle.state.specs.Fired.{count-fired}
+use Rattle.state.specs.Checks.{over}
 use Rattle.state.specs.declared.Run.{Run}
 use Rattle.flow.specs.Flow.{countIn, heldIn, Shows}
 use Rattle.deadlines.specs.Deadline.{indexCheck}
-use Rattle.instants.specs.Steps.{next, clean, overflowed, undated, goes, onward, divides, sourced, lackingTest, lacking, chosen, begun}
-use Rattle.instants.specs.Kept.{Running, SourceStep, sourced-clean, chosen-low, unclean-overflow}
+use Rattle.instants.specs.Steps.{next, clean, undated, goes, onward, sourced, lackingTest, lacking, chosen, begun}
+use Rattle.instants.specs.Kept.{source-cases, sourced-held, Running, SourceStep, sourced-clean, chosen-low, unclean-overflow}
 use Rattle.instants.specs.declared.Outcome.{Outcome}
 use Rattle.instants.specs.declared.Outcome.the-variants.{Clean, Overflowed, NoDeadline}
 use Rattle.instants.specs.declared.Ticked.{Ticked}
 use Rattle.steps.specs.Lent.{Stands, Sources, SourcedTo, SourcedGives, Keeps, Looks, lackOf, LackingGives, ChosenGives, outcomeAs, BegunTo, BegunGives}
 use Rattle.steps.specs.declared.Start.{Start}
 
--- what the source's step leaves where it is clean: its queue apart, the contents are as they were, and a count that has not grown tells that it has not fired
-module _ {c : Chain} {s : Run} (r : Running c s) where
-  pub source-held : sourced c s .outcome ≡ Clean → (j : ℕ) → 0 < j → heldAt (sourced c s .run) j ≡ heldAt s j
-  unfolding sourced
-  source-held h j l = by (divides (c .period) (s .clock)) (cramped c s 0) h
-    where
-      by : (d x : Bool) → (cond d (cond x (overflowed s (s .clock) 0) (clean (fired c s 0))) (clean s)) .outcome ≡ Clean
-          → heldAt ((cond d (cond x (overflowed s (s .clock) 0) (clean (fired c s 0))) (clean s)) .run) j ≡ heldAt s j
-      by true true e = absurd (unclean-overflow e)
-      by true false e = held-other c s 0 j (λ z. omega arith) (λ z. omega arith)
-      by false x e = refl
-
-  pub source-still : sourced c s .outcome ≡ Clean → countAt (sourced c s .run) 0 ≡ countAt s 0 → sourced c s ≡ clean s
-  unfolding sourced
-  source-still = by (divides (c .period) (s .clock)) (cramped c s 0)
-    where
-      by : (d x : Bool) → (cond d (cond x (overflowed s (s .clock) 0) (clean (fired c s 0))) (clean s)) .outcome ≡ Clean
-          → countAt ((cond d (cond x (overflowed s (s .clock) 0) (clean (fired c s 0))) (clean s)) .run) 0 ≡ countAt s 0
-          → cond d (cond x (overflowed s (s .clock) 0) (clean (fired c s 0))) (clean s) ≡ clean s
-      by true true e z = absurd (unclean-overflow e)
-      by true false e z = absurd (omega (arith, count-fired c s 0 (omega (arith, r .whole .counts)), z))
-      by false x e z = refl
+-- a count that has not grown tells that the source has not fired
+source-still : {c : Chain} {s : Run} → Running c s → sourced c s .outcome ≡ Clean → countAt (sourced c s .run) 0 ≡ countAt s 0 → sourced c s ≡ clean s
+source-still {c} {s} r = source-cases c s (λ x. x .outcome ≡ Clean → countAt (x .run) 0 ≡ countAt s 0 → x ≡ clean s)
+    (λ full e z. absurd (unclean-overflow e))
+    (λ room e z. absurd (omega (arith, count-fired c s 0 (omega (arith, r .whole .counts)), z)))
+    (λ e z. refl)
 
 -- the source's step and 13, in each of their three cases
 module _ (c : Chain) (s : Run) where
@@ -116,7 +100,7 @@ restored {l} {f} {g} {c} {s} x h y =
           (λ n. other (48 + j) (λ e. n (omega arith)) (λ e. omega arith) ∙ y .counts j m ∙ u .others j (omega arith));
       holds = λ j m. by-cases (ℕ-discrete j 0)
           (λ e. rw e (getD-set-same one 65 _ 0 (omega (arith, y .long, length-set g 48 (countIn f 0))) ∙ x .shown .shows .holds 0 (omega arith)))
-          (λ n. other (65 + j) (λ e. omega arith) (λ e. n (omega arith)) ∙ y .holds j m ∙ source-held (x .running) h j (omega arith));
+          (λ n. other (65 + j) (λ e. omega arith) (λ e. n (omega arith)) ∙ y .holds j m ∙ sourced-held c s j (omega arith));
     }
 
 -- code tests whether the source's step was not clean

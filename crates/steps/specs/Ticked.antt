@@ -22,14 +22,14 @@ use Rattle.chain.specs.Record.{rowOf, workOf}
 use Rattle.chain.specs.declared.Chain.{Chain}
 use Rattle.state.specs.State.{countAt, doneAt}
 use Rattle.state.specs.Fired.{fired, Over, count-other}
-use Rattle.state.specs.Checks.{over, cramped}
+use Rattle.state.specs.Checks.{over}
 use Rattle.state.specs.declared.Run.{Run}
 use Rattle.flow.specs.Flow.{Shows}
 use Rattle.deadlines.specs.Deadline.{deadline}
 use Rattle.deadline.specs.Plan.{workIn}
 use Rattle.deadline.specs.Dues.{Shown}
-use Rattle.instants.specs.Steps.{clean, overflowed, undated, goes, onward, withDone, divides, sourced, lacking, choose, chosen, worked, ended, finish, finished, begun, tick}
-use Rattle.instants.specs.Kept.{Running, SourceStep, sourced-clean, begun-clean, chosen-low, chosen-over, worked-counts, worked-held, worked-clock, worked-same, works-on, works-ends, unclean-overflow, unclean-undated, tick-parts, fired-clock}
+use Rattle.instants.specs.Steps.{clean, undated, goes, onward, withDone, sourced, lacking, choose, chosen, worked, ended, finish, finished, begun, tick}
+use Rattle.instants.specs.Kept.{finish-cases, sourced-stays, Running, SourceStep, sourced-clean, begun-clean, chosen-low, chosen-over, worked-counts, worked-held, worked-clock, worked-same, works-on, works-ends, unclean-overflow, unclean-undated, tick-parts, fired-clock}
 use Rattle.instants.specs.declared.Outcome.{Outcome}
 use Rattle.instants.specs.declared.Outcome.the-variants.{Clean, Overflowed, NoDeadline}
 use Rattle.instants.specs.declared.Ticked.{Ticked}
@@ -38,21 +38,10 @@ use Rattle.steps.specs.Laws.{worked-done, shows-as}
 use Rattle.steps.specs.Passed.{PassIn, Passes, PassTo, PassGives}
 use Rattle.steps.specs.declared.Start.{Start}
 
--- an outcome of the source's step leaves the state as it was
-source-stays : (c : Chain) (s : Run) → (sourced c s .outcome ≡ Clean → ⊥) → sourced c s .run ≡ s
-unfolding sourced
-source-stays c s = by (divides (c .period) (s .clock)) (cramped c s 0)
-  where
-    by : (d x : Bool) → ((cond d (cond x (overflowed s (s .clock) 0) (clean (fired c s 0))) (clean s)) .outcome ≡ Clean → ⊥)
-        → (cond d (cond x (overflowed s (s .clock) 0) (clean (fired c s 0))) (clean s)) .run ≡ s
-    by true true n = refl
-    by true false n = absurd (n refl)
-    by false x n = refl
-
--- and so does 13
+-- an outcome of the source's step leaves the state as it was, and so does 13
 pub begun-stays : (c : Chain) (s : Run) → (begun c s .outcome ≡ Clean → ⊥) → begun c s .run ≡ s
 unfolding begun onward
-begun-stays c s = by (sourced c s .outcome) (sourced c s .run) _ (source-stays c s) (λ v. lacks v (eqb (lacking c v .number) 0))
+begun-stays c s = by (sourced c s .outcome) (sourced c s .run) _ (sourced-stays c s) (λ v. lacks v (eqb (lacking c v .number) 0))
   where
     lacks : (v : Run) (b : Bool) → ((cond b (clean v) (undated s (s .clock) (lacking c v .place))) .outcome ≡ Clean → ⊥) → (cond b (clean v) (undated s (s .clock) (lacking c v .place))) .run ≡ s
     lacks v true n = absurd (n refl)
@@ -96,21 +85,13 @@ chosen-as c s t a h = λ z. choose (λ i. deadline c i (suc (getD (a z) i 0))) (
 finish-others : (c : Chain) (w : Run) (i k : ℕ) → k ≢ i → countAt (finish c w i .run) k ≡ countAt w k
 unfolding finish
 finish-others c w zero k n = refl
-finish-others c w (suc j) k n = by (cramped c w (suc j))
-  where
-    by : (x : Bool) → countAt ((cond x (overflowed w (w .clock) (suc j)) (clean (fired c (withDone w j 0) (suc j)))) .run) k ≡ countAt w k
-    by true = refl
-    by false = count-other c (withDone w j 0) (suc j) k n
+finish-others c w (suc j) k n = finish-cases c w j (λ x. countAt (x .run) k ≡ countAt w k) (λ e. refl) (λ e. count-other c (withDone w j 0) (suc j) k n)
 
 -- nor does it move the clock
 finish-clock : (c : Chain) (w : Run) (i : ℕ) → finish c w i .run .clock ≡ w .clock
 unfolding finish
 finish-clock c w zero = refl
-finish-clock c w (suc j) = by (cramped c w (suc j))
-  where
-    by : (x : Bool) → (cond x (overflowed w (w .clock) (suc j)) (clean (fired c (withDone w j 0) (suc j)))) .run .clock ≡ w .clock
-    by true = refl
-    by false = fired-clock c (withDone w j 0) (suc j)
+finish-clock c w (suc j) = finish-cases c w j (λ x. x .run .clock ≡ w .clock) (λ e. refl) (λ e. fired-clock c (withDone w j 0) (suc j))
 
 finished-clock : (c : Chain) (w : Run) → finished c w .run .clock ≡ w .clock
 unfolding finished

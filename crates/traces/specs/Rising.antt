@@ -19,8 +19,8 @@ use Rattle.state.specs.State.{freshRun}
 use Rattle.state.specs.Fired.{fired}
 use Rattle.state.specs.Checks.{cramped}
 use Rattle.state.specs.declared.Run.{Run}
-use Rattle.instants.specs.Steps.{clean, overflowed, undated, onward, goes, withDone, divides, sourced, lacking, begun, chosen, worked, ended, finish, finished, advanced, tick, ticks, instants}
-use Rattle.instants.specs.Kept.{worked-clock}
+use Rattle.instants.specs.Steps.{clean, overflowed, undated, onward, goes, divides, sourced, lacking, begun, chosen, worked, ended, finish, finished, advanced, tick, ticks, instants}
+use Rattle.instants.specs.Kept.{finish-cases, worked-clock}
 use Rattle.instants.specs.Fresh.{run-is-ticks}
 use Rattle.instants.specs.declared.Outcome.{Outcome}
 use Rattle.instants.specs.declared.Outcome.the-variants.{Clean, Overflowed, NoDeadline}
@@ -87,14 +87,9 @@ module _ (c : Chain) where
   effect-rising : (s : Run) (i : ℕ) → Rising (s .clock) (tracing (finish c s i .outcome) s (λ u. finishEntry s i)) (finish c s i .run .clock)
   unfolding finish finishEntry tracing Rising fired
   effect-rising s zero = le-refl (s .clock)
-  effect-rising s (suc j) = by (cramped c s (suc j))
-    where
-      step : Bool → Ticked
-      step x = cond x (overflowed s (s .clock) (suc j)) (clean (fired c (withDone s j 0) (suc j)))
-
-      by : (x : Bool) → Rising (s .clock) (tracing (step x .outcome) s (λ u. finishEntry s (suc j))) (step x .run .clock)
-      by true = le-refl (s .clock)
-      by false = (le-refl (s .clock), le-refl (s .clock))
+  effect-rising s (suc j) = finish-cases c s j (λ x. Rising (s .clock) (tracing (x .outcome) s (λ u. finishEntry s (suc j))) (x .run .clock))
+      (λ e. le-refl (s .clock))
+      (λ e. (le-refl (s .clock), le-refl (s .clock)))
 
   -- of the one that is
   finish-rising : (s : Run) → Rising (s .clock) (finishTrace c s) (finished c s .run .clock)

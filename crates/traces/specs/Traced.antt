@@ -27,7 +27,7 @@ use Rattle.history.specs.History.{times, after, Permitted, HasHeld, after-appen
 use Rattle.history.specs.Laws.{counted, balance, naming}
 use Rattle.instants.specs.Checks.{longest}
 use Rattle.instants.specs.Steps.{clean, overflowed, undated, onward, goes, withDone, divides, sourced, lacking, begun, chosen, worked, endedIn, ended, finish, finished, advanced, tick, ticks, instants}
-use Rattle.instants.specs.Kept.{Running, SourceStep, Countable, source-may, sourced-clean, begun-clean, chosen-over, worked-counts, worked-held, worked-other, worked-same, cleared-running, finish-may, tick-step}
+use Rattle.instants.specs.Kept.{finish-cases, Running, SourceStep, Countable, source-may, sourced-clean, begun-clean, chosen-over, worked-counts, worked-held, worked-other, worked-same, cleared-running, finish-may, tick-step}
 use Rattle.instants.specs.Fresh.{Paced, fresh-paced, paced-countable, tick-paced, run-is-ticks}
 use Rattle.instants.specs.declared.Outcome.{Outcome}
 use Rattle.instants.specs.declared.Outcome.the-variants.{Clean, Overflowed, NoDeadline}
@@ -110,15 +110,10 @@ Effected c s i = Replays c s (tracing (finish c s i .outcome) s (λ u. finishEnt
 
 -- a firing that may be takes effect, if it fits
 effected : (c : Chain) (s : Run) (j : ℕ) → Running c (withDone s j 0) → (cramped c s (suc j) ≡ false → May c (withDone s j 0) (suc j)) → Effected c s (suc j)
-unfolding finish finishEntry tracing
-effected c s j r may = by (cramped c s (suc j)) refl
-  where
-    step : Bool → Ticked
-    step x = cond x (overflowed s (s .clock) (suc j)) (clean (fired c (withDone s j 0) (suc j)))
-
-    by : (x : Bool) → cramped c s (suc j) ≡ x → Replays c s (tracing (step x .outcome) s (λ u. finishEntry s (suc j))) (step x .run)
-    by true e = replays-none c s s refl refl
-    by false e = replays-one c (withDone s j 0) r (s .clock) (suc j) (may e)
+unfolding finishEntry tracing
+effected c s j r may = finish-cases c s j (λ x. Replays c s (tracing (x .outcome) s (λ u. finishEntry s (suc j))) (x .run))
+    (λ e. replays-none c s s refl refl)
+    (λ e. replays-one c (withDone s j 0) r (s .clock) (suc j) (may e))
 
 -- one tick of work after the source's step, and the effect of the firing that it finished
 module _ {c : Chain} {s u : Run} (k : SourceStep c s u) (some : Countable c s) where

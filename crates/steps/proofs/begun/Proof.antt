@@ -1,3 +1,4 @@
+-- `steps::begun` meets its contract: the source's step is not clean, or the choice stands, or a deadline cannot be had, or a node is chosen.
 use mathlib.Core.Bool.{true, false}
 use borrow.Author.Needs.{needs}
 use Rattle.steps.specs.Begun.{sourced-as, begun-spills, begun-size, begun-stands, begun-lacks, begun-chooses}

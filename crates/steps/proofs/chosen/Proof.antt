@@ -1,3 +1,4 @@
+-- `steps::chosen` meets its contract: before node j+1 is looked at, the choice among the nodes up to j is at hand, with its deadline.
 use mathlib.Core.Logic.{⊎-elim}
 use Prim.Native.Nat.{_-_}
 use borrow.Author.Needs.{needs}

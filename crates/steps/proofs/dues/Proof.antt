@@ -1,3 +1,4 @@
+-- `steps::dues` meets its contract: before node j+1 is looked at, the deadlines that are wanted of the nodes up to j are there.
 use mathlib.Core.Logic.{⊎-elim}
 use Prim.Native.Nat.{_-_}
 use borrow.Author.Needs.{needs}

@@ -1,3 +1,4 @@
+-- `steps::finished` meets its contract: the production does not fit, or the work is cleared and the firing takes effect.
 use mathlib.Core.Path.{sym, _∙_}
 use borrow.Author.Needs.{needs}
 use Rattle.steps.specs.Laws.{finish-rooms, finish-ready, finish-spills, finish-fits}

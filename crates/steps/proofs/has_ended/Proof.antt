@@ -1,3 +1,4 @@
+-- `steps::has_ended` meets its contract: the source has no work; any other node's is compared with its execution time.
 use borrow.Author.Needs.{needs}
 use Rattle.steps.specs.Laws.{ended-none, ended-node}
 use Rattle.steps.proofs.has_ended.Statement.{statement}

@@ -1,3 +1,4 @@
+-- `steps::is_full` meets its contract: past the last queue nothing is full, and the sum fits.
 use borrow.Author.Needs.{needs}
 use native.Mathlib.Nat.{zero-add}
 use Rattle.steps.specs.Laws.{rooms-sum, full-sink, full-queue}

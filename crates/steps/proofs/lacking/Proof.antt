@@ -1,3 +1,4 @@
+-- `steps::lacking` meets its contract: before node j+1 is looked at, 13 says nothing of the nodes up to j.
 use Prim.Native.Nat.{_-_}
 use borrow.Author.Needs.{needs}
 use mathlib.Core.Logic.{⊎-elim}

@@ -1,3 +1,4 @@
+-- `steps::pass` meets its contract: the tick ends with the source's step or 13, or the work goes on, or the firing takes effect or does not fit.
 use borrow.Author.Needs.{needs}
 use Rattle.steps.specs.Ticked.{pass-ends, pass-works, pass-goes, pass-finishes, pass-fires, pass-spills}
 use Rattle.steps.proofs.pass.Statement.{statement}

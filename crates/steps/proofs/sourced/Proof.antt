@@ -1,3 +1,4 @@
+-- `steps::sourced` meets its contract: the source does not fire, or its production does not fit, or it fires.
 use mathlib.Core.Path.{sym, _∙_}
 use borrow.Author.Needs.{needs}
 use Rattle.steps.specs.Laws.{source-ready, source-rests, source-spills, source-fires}

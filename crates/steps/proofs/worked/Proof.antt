@@ -1,3 +1,4 @@
+-- `steps::worked` meets its contract: work that is below its execution time can grow.
 use borrow.Author.Needs.{needs}
 use Prim.Native.Nat.{_-_}
 use native.Mathlib.Omega.{arith}
