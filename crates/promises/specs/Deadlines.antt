@@ -12,6 +12,7 @@
 --                            fired as often as 01 names has shown the minimum
 --   run-overflow             an overflow is of the source's production, into queue 0
 --   thirteen                 13 is the number of the runs that end for want of a deadline
+--   RanSo, Ran, ran-so       what a caller of `run` learns, from the contract of the call alone
 use mathlib.Core.Path.{_≡_, refl, sym, ap, subst, _∙_}
 use mathlib.Core.Logic.{_↔_}
 use mathlib.Core.List.{List, [], _∷_}
@@ -22,7 +23,9 @@ use Rattle.ardenquill.specs.Chains.{rowOf}
 use Rattle.ardenquill.specs.Analyses.{start, Accepted, analyse-accepts, Enough}
 use Rattle.ardenquill.specs.Runs.{countAt, heldAt, freshRun, freshAnswer, fresh-state}
 use Rattle.ardenquill.specs.Histories.{times}
-use Rattle.ardenquill.specs.Ticks.{numberOf, valuesOf, kindOf, goes, onward, tick, ticks, instants, longest, tickAnswer, deadlineRunAnswer, outcomeOf, ranAs, Ticking, ticking-is, tick-ran, deadline-run-accepts, deadline-run-ran, run-is-ticks, ticks-more, Paced, fresh-paced, tick-paced, paced-countable, tick-step, nodes, trace, resting, run-traced, run-never-spills}
+use Rattle.ardenquill.specs.Ticks.{numberOf, valuesOf, kindOf, atOf, goes, onward, tick, ticks, instants, longest, tickAnswer, deadlineRunAnswer, outcomeOf, ranAs, Ticking, ticking-is, tick-ran, deadline-run-accepts, deadline-run-ran, run-is-ticks, ticks-more, Paced, fresh-paced, tick-paced, paced-countable, tick-step, nodes, trace, resting, run-traced, run-never-spills}
+use Rattle.ardenquill.specs.Flat.{flat}
+use Rattle.ardenquill.specs.declared.OutcomeRun.{OutcomeRun}
 use Rattle.chain.specs.declared.Chain.{Chain}
 use Rattle.state.specs.declared.Run.{Run}
 use Rattle.instants.specs.declared.Outcome.{Outcome}
@@ -151,3 +154,38 @@ pub thirteen : (o : Outcome) → (numberOf o ≡ 13) ↔ (kindOf o ≡ 2)
 thirteen Clean = (λ e. absurd (omega arith), λ e. absurd (omega arith))
 thirteen (Overflowed t q) = (λ e. absurd (omega arith), λ e. absurd (omega arith))
 thirteen (NoDeadline t i) = (λ e. refl, λ e. refl)
+
+-- demand 3 of a deadline run that was not refused, as C is answered it: counts are those of its firings, which manual firing accepts; "each queue holds what its
+-- producer's firings put in less what its consumer's took out"; a producer that fired "as often as 01 names" has shown the minimum; and an overflow is at queue 0
+pub record RanSo (c : Chain) (T : ℕ) (r : OutcomeRun) : Type 0 where
+  pub fires : Fires c (nodes (trace c T (freshRun c)))
+  pub state : replayAnswer c (nodes (trace c T (freshRun c))) .run ≡ resting (r .run)
+  pub counted : (i : ℕ) → i ≤ c .n → countAt (r .run) i ≡ times i (nodes (trace c T (freshRun c)))
+  pub balance : (j : ℕ) → j < c .n → start (rowOf c j) + rowOf c j .produce * countAt (r .run) j ≡ heldAt (r .run) j + rowOf c j .consume * countAt (r .run) (suc j)
+  pub naming : (j : ℕ) → j < c .n → line c j .by ≤ countAt (r .run) j → Sometime c (nodes (trace c T (freshRun c))) (λ s. line c j .minimum ≤ heldAt s j)
+  pub overflow : r .kind ≡ 1 → r .at ≡ 0
+
+-- the answer, and what it promises where it is not refused
+pub record Ran (c : Chain) (T : ℕ) (r : OutcomeRun) : Type 0 where
+  pub answer : r ≡ flat (deadlineRunAnswer c T)
+  pub so : r .number ≡ 0 → RanSo c T r
+
+-- an overflow as C is answered it
+overflow-at : (o : Outcome) → ((t q : ℕ) → numberOf o ≡ 0 → valuesOf o ≡ t ∷ q ∷ [] → q ≡ 0) → kindOf o ≡ 1 → atOf o ≡ 0
+overflow-at Clean h e = absurd (omega arith)
+overflow-at (Overflowed t q) h e = h t q refl refl
+overflow-at (NoDeadline t i) h e = absurd (omega arith)
+
+-- the answer is enough
+pub ran-so : (c : Chain) (T : ℕ) {r : OutcomeRun} → r ≡ flat (deadlineRunAnswer c T) → Ran c T r
+ran-so c T e = record { answer = e; so = λ z. subst (RanSo c T) (sym e) (by (ap (λ (x : OutcomeRun). x .number) (sym e) ∙ z)) }
+  where
+    by : DeadlineRuns c T → RanSo c T (flat (deadlineRunAnswer c T))
+    by ran = record {
+      fires = run-fires c T ran;
+      state = run-state c T ran;
+      counted = run-counted c T ran;
+      balance = λ j l. rw (run-counted c T ran j (omega arith), run-counted c T ran (suc j) l) (run-balance c T ran j l);
+      naming = run-naming c T ran;
+      overflow = overflow-at (deadlineRunAnswer c T .outcome) (run-overflow c T ran);
+    }

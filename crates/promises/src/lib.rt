@@ -1,6 +1,8 @@
-// The customer's demands as theorems, in specs/, and a function that is proved from the contracts of the public calls alone.
+// The customer's demands as theorems, in specs/, and two functions that are proved from the contracts of the public calls alone.
+ghost use Rattle.promises.specs.Deadlines.{Ran};
 ghost use Rattle.promises.specs.Replayed.{Replayed};
 use ardenquill::Chain;
+use ardenquill::OutcomeRun;
 use ardenquill::RunAnswer;
 
 // A fresh start of a chain, and then a manual firing of each node in turn; the first refusal ends it, with the state as it
@@ -19,4 +21,11 @@ pub fn replay(chain: Chain, nodes: &[u32]) -> RunAnswer
         i += 1;
     }
     answer
+}
+
+// A deadline run as C is answered it.
+pub fn run(chain: Chain, ticks: u32) -> OutcomeRun
+    ensures { λ r. ⌜ Ran chain ticks r ⌝ }
+{
+    ardenquill::ardenquill_deadline_run(chain, ticks)
 }
