@@ -159,7 +159,7 @@ abbrev pub ended : Chain → Run → ℕ
 ended c s = endedIn c s (c .n)
 
 -- "a finished firing adds p to the output queue, if any, then removes c from the input queue"; overflowed, "the state being that before the
--- production", so that "work done of e is left only by an overflow at a finish"
+-- production", so that "work done of e is left only by an overflow at a finish"; with 8 passed there is none (finish-never-spills)
 unfoldable pub finish : Chain → Run → ℕ → Ticked
 unfolding cramped fired
 finish c s zero = clean s

@@ -220,6 +220,7 @@ pub fn has_ended(plan: &[u32; PLAN], done: &[u32; 16], i: usize) -> bool
 }
 
 // The effect of node i's firing, which is finished; false where its production does not fit, and then nothing is changed.
+// With 8 passed it always fits (`finish-never-spills`, `instants`); the rules name the case, and so it stands.
 pub fn finished(
     plan: &[u32; PLAN],
     flow: &mut [u32; LENGTH],
