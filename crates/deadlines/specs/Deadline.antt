@@ -31,7 +31,8 @@ use Rattle.chain.specs.declared.Chain.{Chain}
 use Rattle.sizing.specs.Sizes.{capacityOf}
 use Rattle.sizing.specs.Checks.{limit}
 
--- "index ((k−1)×c+B)/p rounded down, plus 1"; B is the capacity in force, and k is at least 1 (earlier-some), so the minus is exact
+-- "index ((k−1)×c+B)/p rounded down, plus 1"; B is the capacity in force; k is at least 1, of the firing asked by 11, of a next firing by `next`, and of
+-- each further index by earlier-some, so the minus is exact
 unfoldable pub earlier : Queue → ℕ → ℕ
 unfolding capacity minimum
 earlier q k = ((k - 1) * q .consume + capacityOf q) / q .produce + 1

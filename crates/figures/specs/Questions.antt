@@ -5,7 +5,7 @@
 --                            number, place, n, the first n lines, busy, cycle
 --   state c r                the answer of a call that gives a run state: number, place, clock; the counts of nodes 0 to n; what each of the
 --                            n queues holds; and the work done of the node that each feeds
---   outcome c r                the answer of a tick or a deadline run: the same, with the outcome's number behind the place and its values at the end
+--   outcome c r              the answer of a tick or a deadline run: the same, with the outcome's number behind the place and its values at the end
 use mathlib.Core.List.{List, [], _∷_, _++_}
 use Prim.Native.Nat.{ℕ, suc}
 use lib.ListN.{getD}

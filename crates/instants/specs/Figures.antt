@@ -6,6 +6,7 @@
 --   twelve-90                  and with B = 12 none to tick 90
 --   feed-ticks                 P7 by ticks
 --   late, lateRun, late-tick   a node that the source's step brings over threshold, and whose deadline can't be had
+--   late-rests                 where the source does not step it is below threshold, and the tick is clean
 use mathlib.Core.Path.{_≡_, refl}
 use mathlib.Core.List.{List, [], _∷_}
 use Prim.Native.Nat.{ℕ}
@@ -13,7 +14,7 @@ use Rattle.chain.specs.Factory.{queue, made, factoryAnswer}
 use Rattle.chain.specs.declared.Chain.{Chain}
 use Rattle.state.specs.State.{freshRun, countAt, heldAt}
 use Rattle.state.specs.declared.Run.{Run}
-use Rattle.instants.specs.Steps.{tick, ticks, instants, numberOf, valuesOf}
+use Rattle.instants.specs.Steps.{withClock, tick, ticks, instants, numberOf, valuesOf}
 use Rattle.instants.specs.declared.Ticked.{Ticked}
 
 -- the factory chain 0
@@ -64,3 +65,8 @@ lateRun = record { clock = 0; counts = 4294967290 ∷ 4294967290 ∷ []; held = 
 pub late-tick : row (tick late lateRun) ≡ 13 ∷ 4294967290 ∷ 4294967290 ∷ 0 ∷ 0 ∷ 1 ∷ []
 unfolding tick
 late-tick = refl
+
+-- while it is below threshold nothing is asked of it
+pub late-rests : row (tick late (withClock lateRun 1)) ≡ 0 ∷ 4294967290 ∷ 4294967290 ∷ 0 ∷ []
+unfolding tick
+late-rests = refl

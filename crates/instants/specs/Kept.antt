@@ -8,7 +8,7 @@
 --                              the source's step changes no other node or queue, and nothing at all where it is not clean
 --   SourceStep c s u           what it leaves where it is clean; sourced-clean: it does; source-may: the source may fire where there is room
 --   onward-cases               what goes on was clean
---   begun-clean                the source's step and 13 leave what the source's step does
+--   begun-clean, begun-stays   the source's step and 13 leave what the source's step does where neither ends the tick, and else the state as it was
 --   chosen-low, chosen-over    the node that works is a node of the chain, and over threshold
 --   ended-none, ended-one      which node's work is done
 --   worked-counts, -held, -clock, -other, -same
@@ -16,7 +16,7 @@
 --   works-running, works-on    a firing that is not finished: the state passes 17, and nothing takes effect
 --   works-ends, cleared-running, finish-may
 --                              one that is: its effect, the state with its work cleared, and that its node may fire
---   tick-parts                 a tick is the source's step and 13, and then the work of the node chosen and its effect
+--   tick-begun                 a tick is the source's step and 13, and then the work of the node chosen and its effect
 --   TickStep c s t, tick-step  what a clean tick leaves
 --   fired-clock                a firing does not move the clock
 --   Countable c s              every count can grow
@@ -165,7 +165,7 @@ onward-cases r f = by (r .outcome)
     by (Overflowed t q) h = absurd (unclean-overflow h)
     by (NoDeadline t i) h = absurd (unclean-undated h)
 
--- 13 does not change a clean state
+-- where neither ends the tick, they leave what the source's step left
 pub begun-clean : (c : Chain) (s : Run) → begun c s .outcome ≡ Clean → (sourced c s .outcome ≡ Clean) × (Silent (lacking c (sourced c s .run)) × (begun c s ≡ clean (sourced c s .run)))
 unfolding begun
 begun-clean c s h =
@@ -181,6 +181,20 @@ begun-clean c s h =
         → Silent (lacking c (sourced c s .run)) × (cond b (clean (sourced c s .run)) (undated s (s .clock) (lacking c (sourced c s .run) .place)) ≡ clean (sourced c s .run))
     by true e h = (eqb-true _ _ e, refl)
     by false e h = absurd (unclean-undated h)
+
+-- an outcome of the source's step leaves the state as it was, and so does 13
+pub begun-stays : (c : Chain) (s : Run) → (begun c s .outcome ≡ Clean → ⊥) → begun c s .run ≡ s
+unfolding begun onward
+begun-stays c s = by (sourced c s .outcome) (sourced c s .run) _ (sourced-stays c s) (λ v. lacks v (eqb (lacking c v .number) 0))
+  where
+    lacks : (v : Run) (b : Bool) → ((cond b (clean v) (undated s (s .clock) (lacking c v .place))) .outcome ≡ Clean → ⊥) → (cond b (clean v) (undated s (s .clock) (lacking c v .place))) .run ≡ s
+    lacks v true n = absurd (n refl)
+    lacks v false n = refl
+
+    by : (o : Outcome) (u : Run) (f : Run → Ticked) → ((o ≡ Clean → ⊥) → u ≡ s) → ((v : Run) → (f v .outcome ≡ Clean → ⊥) → f v .run ≡ s) → (goes o u f .outcome ≡ Clean → ⊥) → goes o u f .run ≡ s
+    by Clean u f stays next n = next u n
+    by (Overflowed t q) u f stays next n = stays unclean-overflow
+    by (NoDeadline t i) u f stays next n = stays unclean-undated
 
 module _ (c : Chain) (s : Run) where
   -- the node that works is a node of the chain, and over threshold
@@ -294,9 +308,9 @@ module _ {c : Chain} {u : Run} (r : Running c u) where
     finish-may o n e = record { node = l; countable = n; over = o; room = finish-room c u j e }
 
 -- the source's step and 13, and then the work of the node chosen and its effect
-pub tick-parts : (c : Chain) (s : Run) → tick c s ≡ onward (begun c s) (λ u. finished c (worked u (chosen c u)))
+pub tick-begun : (c : Chain) (s : Run) → tick c s ≡ onward (begun c s) (λ u. finished c (worked u (chosen c u)))
 unfolding tick advanced onward
-tick-parts c s = onward-then (begun c s) (λ u. clean (worked u (chosen c u))) (finished c)
+tick-begun c s = onward-then (begun c s) (λ u. clean (worked u (chosen c u))) (finished c)
 
 -- what a tick leaves where it is clean: a state that passes 17 one tick later, no node having fired more than once
 pub record TickStep (c : Chain) (s t : Run) : Type 0 where
@@ -362,10 +376,10 @@ module _ {c : Chain} {s : Run} (r : Running c s) where
   -- a clean tick leaves a state that passes 17
   pub tick-step : tick c s .outcome ≡ Clean → TickStep c s (tick c s .run)
   tick-step h =
-      let o = onward-cases (begun c s) (λ u. finished c (worked u (chosen c u))) (ap (λ (x : Ticked). x .outcome) (sym (tick-parts c s)) ∙ h) in
+      let o = onward-cases (begun c s) (λ u. finished c (worked u (chosen c u))) (ap (λ (x : Ticked). x .outcome) (sym (tick-begun c s)) ∙ h) in
       let b = begun-clean c s (o .0) in
       let u : Run = sourced c s .run in
-      let f : tick c s ≡ finished c (worked u (chosen c u)) = tick-parts c s ∙ o .1 .1 ∙ ap (λ (x : Ticked). finished c (worked (x .run) (chosen c (x .run)))) (b .1 .1) in
+      let f : tick c s ≡ finished c (worked u (chosen c u)) = tick-begun c s ∙ o .1 .1 ∙ ap (λ (x : Ticked). finished c (worked (x .run) (chosen c (x .run)))) (b .1 .1) in
       let step : SourceStep c s u = sourced-clean r (b .0) in
       subst (λ (x : Ticked). TickStep c s (x .run)) (sym f)
       (works-step step (chosen c u) (chosen-low c u) (chosen-over c u) (ap (λ (x : Ticked). x .outcome) (sym f) ∙ h))

@@ -2,6 +2,7 @@ pub mod Steps
 pub mod Figures
 pub mod Checks
 pub mod Refusals
+pub mod Lacking
 pub mod Best
 pub mod Runs
 pub mod Kept

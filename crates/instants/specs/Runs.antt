@@ -1,6 +1,6 @@
 -- A deadline run by instants and by ticks (01, Firing).
---   onward-clean, -stands      what follows a clean state, and what follows any other outcome
---   onward-then                one thing after the other
+--   onward-clean, -none, -then what follows a clean state, nothing that follows, and one thing after the other
+--   ticks-none, ticks-suc      no tick, and one more
 --   instants-ticks             instants are the effect of a firing that is finished, and then ticks
 --   ticks-more                 a+b ticks are a ticks, carried on for b
 use mathlib.Core.Path.{_≡_, refl, sym, ap, _∙_}
@@ -47,9 +47,9 @@ module _ (c : Chain) where
   unfolding ticks
   ticks-suc T s = refl
 
-  tick-parts : (s : Run) → tick c s ≡ onward (advanced c s) (finished c)
+  tick-is : (s : Run) → tick c s ≡ onward (advanced c s) (finished c)
   unfolding tick
-  tick-parts s = refl
+  tick-is s = refl
 
   instants-suc : (T : ℕ) (s : Run) → instants c (suc T) s ≡ onward (onward (finished c s) (advanced c)) (instants c T)
   unfolding instants
@@ -71,7 +71,7 @@ module _ (c : Chain) where
       step each u =
           ap (onward (advanced c u)) (λ i v. each v i)
           ∙ sym (onward-then (advanced c u) (finished c) (ticks c T))
-          ∙ ap (λ (r : Ticked). onward r (ticks c T)) (sym (tick-parts u))
+          ∙ ap (λ (r : Ticked). onward r (ticks c T)) (sym (tick-is u))
           ∙ sym (ticks-suc T u)
 
   -- "a run of a+b ticks is a run of a ticks carried on for b"

@@ -32,7 +32,7 @@ use Rattle.state.specs.declared.Run.{Run}
 use Rattle.deadlines.specs.Deadline.{earlier, deadline, deadline-mono}
 use Rattle.instants.specs.Best.{chosen-best}
 use Rattle.instants.specs.Fresh.{fresh-running, run-is-ticks}
-use Rattle.instants.specs.Kept.{source-cases, finish-cases, Running, sourced-clean, begun-clean, chosen-low, worked-held, works-on, works-ends, tick-parts, tick-step}
+use Rattle.instants.specs.Kept.{unclean-overflow, source-cases, finish-cases, Running, sourced-clean, begun-clean, chosen-low, worked-held, works-on, works-ends, tick-begun, tick-step}
 use Rattle.instants.specs.Steps.{kindOf, tickOf, atOf, next, clean, undated, goes, onward, sourced, lacking, chosen, worked, finish, finished, begun, tick, ticks, instants}
 use Rattle.instants.specs.declared.Outcome.{Outcome}
 use Rattle.instants.specs.declared.Outcome.the-variants.{Clean, Overflowed, NoDeadline}
@@ -95,10 +95,7 @@ module _ {c : Chain} {u : Run} (r : Running c u) (enough : (j : ℕ) → j < c .
           (λ all. ap (λ (x : Ticked). x .outcome) (works-ends r j l all) ∙ finish-clean j e)
           (λ ne. ap (λ (x : Ticked). x .outcome) (works-on r (suc j) (λ m f z. let q : j ≡ m = omega arith in subst (λ (y : ℕ). doneAt u y + 1 < workOf c y) q (omega (arith, ne, r .state j l .1)))))
 
--- an overflow is not clean, and two are the same where their values are
-over-clean : {t q : ℕ} → Clean ≡ Overflowed t q → ⊥
-over-clean e = let z : _≡_ {A = ℕ} 0 1 = ap kindOf e in absurd (omega arith)
-
+-- two overflows are the same where their values are
 over-values : {t q a b : ℕ} → Overflowed t q ≡ Overflowed a b → (a ≡ t) × (b ≡ q)
 over-values e = (ap tickOf (sym e), ap atOf (sym e))
 
@@ -107,7 +104,7 @@ over-undated e = let z : _≡_ {A = ℕ} 2 1 = ap kindOf e in absurd (omega arit
 
 -- an overflow of the source's step and 13 is the source's
 source-spills : (c : Chain) (s : Run) (t q : ℕ) → sourced c s .outcome ≡ Overflowed t q → (t ≡ s .clock) × (q ≡ 0)
-source-spills c s t q = source-cases c s (λ x. x .outcome ≡ Overflowed t q → (t ≡ s .clock) × (q ≡ 0)) (λ full e. over-values e) (λ room e. absurd (over-clean e)) (λ e. absurd (over-clean e))
+source-spills c s t q = source-cases c s (λ x. x .outcome ≡ Overflowed t q → (t ≡ s .clock) × (q ≡ 0)) (λ full e. over-values e) (λ room e. absurd (unclean-overflow (sym e))) (λ e. absurd (unclean-overflow (sym e)))
 
 -- what goes on overflows where what it goes on with does, or overflowed before
 onward-spills : (r : Ticked) (f : Run → Ticked) {P : Type 0} (t q : ℕ) → (r .outcome ≡ Overflowed t q → P) → (r .outcome ≡ Clean → f (r .run) .outcome ≡ Overflowed t q → P) → onward r f .outcome ≡ Overflowed t q → P
@@ -124,7 +121,7 @@ unfolding begun
 begun-spills c s t q = onward-spills (sourced c s) _ t q (source-spills c s t q) (λ z e. absurd (by (eqb (lacking c (sourced c s .run) .number) 0) e))
   where
     by : (b : Bool) → (cond b (clean (sourced c s .run)) (undated s (s .clock) (lacking c (sourced c s .run) .place))) .outcome ≡ Overflowed t q → ⊥
-    by true e = over-clean e
+    by true e = unclean-overflow (sym e)
     by false e = over-undated e
 
 module _ {c : Chain} (enough : (j : ℕ) → j < c .n → Enough c j) where
@@ -137,13 +134,13 @@ module _ {c : Chain} (enough : (j : ℕ) → j < c .n → Enough c j) where
       let is : begun c s .run ≡ sourced c s .run = ap (λ (x : Ticked). x .run) (b .1 .1) in
       let fits : finished c (worked (begun c s .run) (chosen c (begun c s .run))) .outcome ≡ Clean =
       subst (λ (u : Run). finished c (worked u (chosen c u)) .outcome ≡ Clean) (sym is) (finish-fits (sourced-clean r (b .0) .running) enough) in
-      absurd (over-clean (sym fits ∙ f)))
-      (ap (λ (x : Ticked). x .outcome) (sym (tick-parts c s)) ∙ e)
+      absurd (unclean-overflow (sym f ∙ fits)))
+      (ap (λ (x : Ticked). x .outcome) (sym (tick-begun c s)) ∙ e)
 
   -- nor in any number of ticks
   pub ticks-never-spill : (T : ℕ) {s : Run} → Running c s → (t q : ℕ) → ticks c T s .outcome ≡ Overflowed t q → q ≡ 0
   unfolding ticks
-  ticks-never-spill zero r t q e = absurd (over-clean e)
+  ticks-never-spill zero r t q e = absurd (unclean-overflow (sym e))
   ticks-never-spill (suc T) {s} r t q e = onward-spills (tick c s) (ticks c T) t q (λ f. finish-never-spills r t q f .1) (λ z f. ticks-never-spill T (tick-step r z .running) t q f) e
 
   -- and so of a deadline run

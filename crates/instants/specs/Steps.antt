@@ -3,18 +3,19 @@
 --   kindOf, tickOf, atOf o     the same for C; kind-number, kind-values: which says the same
 --   clean s, overflowed s t q, undated s t i
 --                              a state that is left clean, by a production at t that does not fit queue q, or by 13 at t of node i
---   onward r f                 what f makes of a state that was left clean; any other outcome stands
+--   goes, onward r f           what f makes of a state that was left clean; any other outcome stands
 --   withClock s t, withDone s j d
 --                              the state s with another clock, or other work done of N_(j+1)
 --   divides y t                whether y divides t
 --   sourced c s                the source's step
---   next c s i                 the index of N_i's next firing
---   lacking c s                13: the lowest node over threshold whose deadline cannot be had
---   asEarly, better, choose due over n
+--   next s i                   the index of N_i's next firing
+--   lackingTest c s i, lacking c s
+--                              13 of N_i, and of the state: the lowest node over threshold whose deadline cannot be had
+--   asEarly, choose due able n
 --                              of the nodes 1 to n the one with the earliest deadline, ties to the one nearest the sink; 0 for none
 --   chosen c s                 the node that works
 --   worked s i                 one tick of work of N_i, and the clock going on
---   over e d, endedIn c s n, ended c s
+--   endedIn c s n, ended c s
 --                              the node whose work is done; 0 for none
 --   finish c s i, finished c s the effect of a firing that is finished
 --   begun c s                  the source's step, then 13

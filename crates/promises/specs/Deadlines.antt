@@ -1,11 +1,11 @@
 -- "Deadlines .. and both kinds of run" (demand 2), and demand 3 of deadline runs, of what the public calls answer.
 --   c, T                     a chain, and a number of ticks
 --   DeadlineRuns c T         the deadline run of T ticks is not refused; deadline-runs-is: exactly when
---   carryOn r f, ticksFrom c T s
+--   follows, carryOn r f, ticksFrom c T s
 --                            T ticks from s, as their calls answer them: the first refusal, or the first outcome that is not clean, ends it
 --   by-ticks                 the run answers what so many ticks from a fresh start answer
 --   carried-on               a run of a+b ticks is a run of a ticks, carried on for b
---   fired c T                the nodes that fired in the run, in order
+--   firings                  the nodes that fired in the run, in order
 --   run-fires, run-state     manual firing accepts each of them, and after them counts and contents are the run's
 --   run-counted, run-balance, run-naming
 --                            so a node's count is how often it fired, each queue holds what was put in less what was taken out, and a producer that
@@ -46,15 +46,15 @@ unfolding deadlineRunAnswer outcomeOf
 deadline-runs-is c T = deadline-run-accepts c T
 
 -- what follows an answer: nothing after a refusal, or after an outcome that is not clean
-unfoldable pub after : ℕ → Outcome → TickAnswer → (Run → TickAnswer) → TickAnswer
-after zero Clean r f = f (r .run)
-after zero (Overflowed t q) r f = r
-after zero (NoDeadline t i) r f = r
-after (suc n) o r f = r
+unfoldable pub follows : ℕ → Outcome → TickAnswer → (Run → TickAnswer) → TickAnswer
+follows zero Clean r f = f (r .run)
+follows zero (Overflowed t q) r f = r
+follows zero (NoDeadline t i) r f = r
+follows (suc n) o r f = r
 
 unfoldable pub carryOn : TickAnswer → (Run → TickAnswer) → TickAnswer
-unfolding after
-carryOn r f = after (r .number) (r .outcome) r f
+unfolding follows
+carryOn r f = follows (r .number) (r .outcome) r f
 
 -- tick after tick, as the calls answer
 unfoldable pub ticksFrom : Chain → ℕ → Run → TickAnswer
@@ -67,7 +67,7 @@ carried : (x : Ticked) (f : Run → TickAnswer) (g : Run → Ticked) → (x .out
 unfolding carryOn onward
 carried x f g next = by (x .outcome) next
   where
-    by : (o : Outcome) → (o ≡ Clean → f (x .run) ≡ ranAs (g (x .run))) → after 0 o (record { number = 0; place = 0; outcome = o; run = x .run }) f ≡ ranAs (goes o (x .run) g)
+    by : (o : Outcome) → (o ≡ Clean → f (x .run) ≡ ranAs (g (x .run))) → follows 0 o (record { number = 0; place = 0; outcome = o; run = x .run }) f ≡ ranAs (goes o (x .run) g)
     by Clean h = h refl
     by (Overflowed t q) h = refl
     by (NoDeadline t i) h = refl
@@ -105,28 +105,28 @@ module _ (c : Chain) (T : ℕ) (ran : DeadlineRuns c T) where
       ∙ ap (ticksFrom c T) (sym (fresh-state c (analyse-accepts c .1 accepted)))
 
   -- the nodes that fired in it, in order
-  abbrev pub fired : List ℕ
-  fired = nodes (trace c T (freshRun c))
+  abbrev pub firings : List ℕ
+  firings = nodes (trace c T (freshRun c))
 
   -- manual firing accepts each of them
-  pub run-fires : Fires c fired
-  run-fires = fires-is c fired .1 (accepted, run-traced accepted T (parts .1) .0)
+  pub run-fires : Fires c firings
+  run-fires = fires-is c firings .1 (accepted, run-traced accepted T (parts .1) .0)
 
   -- and after them counts and contents are the run's
-  pub run-state : replayAnswer c fired .run ≡ resting (deadlineRunAnswer c T .run)
-  run-state = fires-state c fired run-fires ∙ run-traced accepted T (parts .1) .1 ∙ ap (λ (a : TickAnswer). resting (a .run)) (sym answer-is)
+  pub run-state : replayAnswer c firings .run ≡ resting (deadlineRunAnswer c T .run)
+  run-state = fires-state c firings run-fires ∙ run-traced accepted T (parts .1) .1 ∙ ap (λ (a : TickAnswer). resting (a .run)) (sym answer-is)
 
-  -- a count is how often the node fired
-  pub run-counted : (i : ℕ) → i ≤ c .n → countAt (deadlineRunAnswer c T .run) i ≡ times i fired
-  run-counted i l = ap (λ (s : Run). countAt s i) (sym run-state) ∙ demand.counted c fired run-fires i l
+  -- a count is how often the node firings
+  pub run-counted : (i : ℕ) → i ≤ c .n → countAt (deadlineRunAnswer c T .run) i ≡ times i firings
+  run-counted i l = ap (λ (s : Run). countAt s i) (sym run-state) ∙ demand.counted c firings run-fires i l
 
   -- "each queue holds what its producer's firings put in less what its consumer's took out"
-  pub run-balance : (j : ℕ) → j < c .n → start (rowOf c j) + rowOf c j .produce * times j fired ≡ heldAt (deadlineRunAnswer c T .run) j + rowOf c j .consume * times (suc j) fired
-  run-balance j l = subst (λ (s : Run). start (rowOf c j) + rowOf c j .produce * times j fired ≡ heldAt s j + rowOf c j .consume * times (suc j) fired) run-state (demand.balance c fired run-fires j l)
+  pub run-balance : (j : ℕ) → j < c .n → start (rowOf c j) + rowOf c j .produce * times j firings ≡ heldAt (deadlineRunAnswer c T .run) j + rowOf c j .consume * times (suc j) firings
+  run-balance j l = subst (λ (s : Run). start (rowOf c j) + rowOf c j .produce * times j firings ≡ heldAt s j + rowOf c j .consume * times (suc j) firings) run-state (demand.balance c firings run-fires j l)
 
   -- "in no permitted order can a producer fire as often as 01 names for its queue unless that queue has held at least the minimum"
-  pub run-naming : (j : ℕ) → j < c .n → line c j .by ≤ countAt (deadlineRunAnswer c T .run) j → Sometime c fired (λ s. line c j .minimum ≤ heldAt s j)
-  run-naming j l often = demand.naming c fired run-fires j l (omega (arith, run-counted j (omega arith)))
+  pub run-naming : (j : ℕ) → j < c .n → line c j .by ≤ countAt (deadlineRunAnswer c T .run) j → Sometime c firings (λ s. line c j .minimum ≤ heldAt s j)
+  run-naming j l often = demand.naming c firings run-fires j l (omega (arith, run-counted j (omega arith)))
 
   -- "overflowed at (tick, queue)" is always at queue 0: no firing that has worked its execution time is stopped by a full queue
   pub run-overflow : (t q : ℕ) → numberOf (deadlineRunAnswer c T .outcome) ≡ 0 → valuesOf (deadlineRunAnswer c T .outcome) ≡ t ∷ q ∷ [] → q ≡ 0
@@ -149,14 +149,14 @@ module _ (c : Chain) (a b : ℕ) (ran : DeadlineRuns c (a + b)) where
       answer-is c (a + b) ran
       ∙ ap ranAs (run-is-ticks k (a + b) ∙ ticks-more c a b (freshRun c) ∙ ap (λ (x : Ticked). onward x (ticks c b)) (sym (run-is-ticks k a)))
 
--- 13 is the number of exactly the outcomes that are neither clean nor an overflow; a clean one has no values
+-- 13 is the number of exactly the outcomes that are neither clean nor an overflow
 pub thirteen : (o : Outcome) → (numberOf o ≡ 13) ↔ (kindOf o ≡ 2)
 thirteen Clean = (λ e. absurd (omega arith), λ e. absurd (omega arith))
 thirteen (Overflowed t q) = (λ e. absurd (omega arith), λ e. absurd (omega arith))
 thirteen (NoDeadline t i) = (λ e. refl, λ e. refl)
 
 -- demand 3 of a deadline run that was not refused, as C is answered it: counts are those of its firings, which manual firing accepts; "each queue holds what its
--- producer's firings put in less what its consumer's took out"; a producer that fired "as often as 01 names" has shown the minimum; and an overflow is at queue 0
+-- producer's firings put in less what its consumer's took out"; a producer that fired "as often as 01 names" has shown the minimum; and an overflow is at queue 0, kind and at being what numberOf and valuesOf say (kind-number, kind-values)
 pub record RanSo (c : Chain) (T : ℕ) (r : OutcomeRun) : Type 0 where
   pub fires : Fires c (nodes (trace c T (freshRun c)))
   pub state : replayAnswer c (nodes (trace c T (freshRun c))) .run ≡ resting (r .run)

@@ -6,25 +6,24 @@
 --   sourced-as, begun-size   what was tested of the source's step, and the number of queues, after the source's step
 use mathlib.Core.Path.{_≡_, refl, sym, ap, subst, _∙_}
 use mathlib.Core.Logic.{_≢_, by-cases}
-use mathlib.Core.Bool.{Bool, true, false, cond, not, _&&_}
+use mathlib.Core.Bool.{Bool, true, false, cond, not}
 use mathlib.Core.List.{List}
-use Prim.Native.Nat.{ℕ, suc, _+_, _≤_, _<_}
+use Prim.Native.Nat.{ℕ, _+_, _≤_, _<_}
 use native.Mathlib.Decide.{ℕ-discrete}
 use native.Mathlib.Omega.{arith}
 use lib.Dec.{eqb}
 use lib.ListN.{getD, set, length-set}
 use lib.Seq.{getD-set-same, getD-set-other}
 use borrow.Author.Tests.{eq-eqb, ne-eqb}
-use Rattle.chain.specs.Refusals.{refused, Silent, number-of, lowest-is, test-exact}
+use Rattle.chain.specs.Refusals.{refused, Silent, number-of}
 use Rattle.chain.specs.declared.Refusal.{Refusal}
 use Rattle.chain.specs.declared.Chain.{Chain}
 use Rattle.state.specs.State.{countAt}
 use Rattle.state.specs.Fired.{count-fired}
-use Rattle.state.specs.Checks.{over}
 use Rattle.state.specs.declared.Run.{Run}
 use Rattle.flow.specs.Flow.{countIn, heldIn, Shows}
-use Rattle.deadlines.specs.Deadline.{indexCheck}
-use Rattle.instants.specs.Steps.{next, clean, undated, goes, onward, sourced, lackingTest, lacking, chosen, begun}
+use Rattle.instants.specs.Lacking.{lacking-exact}
+use Rattle.instants.specs.Steps.{clean, undated, goes, onward, sourced, lacking, chosen, begun}
 use Rattle.instants.specs.Kept.{source-cases, sourced-held, Running, SourceStep, sourced-clean, chosen-low, unclean-overflow}
 use Rattle.instants.specs.declared.Outcome.{Outcome}
 use Rattle.instants.specs.declared.Outcome.the-variants.{Clean, Overflowed, NoDeadline}
@@ -60,16 +59,6 @@ module _ (c : Chain) (s : Run) where
 
     after-lack : (i : ℕ) → lacking c (sourced c s .run) ≡ refused 13 i → begun c s ≡ undated s (s .clock) i
     after-lack i e = after-clean ∙ ap (λ (x : Refusal). cond (eqb (x .number) 0) (clean (sourced c s .run)) (undated s (s .clock) (x .place))) e
-
--- 13's node is one of the chain
-lack-place : (c : Chain) (u : Run) (j m : ℕ) → lackingTest c u j ≡ refused 13 m → m ≡ j
-lack-place c u j m e = test-exact 13 m j (λ z. omega arith) (over c u j && not (eqb (indexCheck c j (next u j) .number) 0)) .0 e .1
-
-lacking-low : (c : Chain) (u : Run) (m : ℕ) → lacking c u ≡ refused 13 m → m ≤ c .n
-unfolding lacking
-lacking-low c u m e =
-    let y = lowest-is 13 m (λ z. omega arith) (λ j. lackingTest c u (suc j)) (c .n) .0 e in
-    omega (arith, y .inside, lack-place c u (suc (y .at)) m (y .says))
 
 -- a flow shows what they leave
 begun-to : {c : Chain} {s : Run} {t : ℕ} {g : List ℕ} {r : Start} {x : Ticked} → begun c s ≡ x → x .outcome ≡ outcomeAs (r .kind) t (r .node) → Shows g c (x .run) → (r .kind ≡ 0 → chosen c (x .run) ≡ r .node) → r .node ≤ c .n → BegunTo c s t g r
@@ -141,7 +130,7 @@ module _ {l f g : List ℕ} {t : ℕ} where
         gives = λ {c} {s} x k q n.
             let o : sourced c s .outcome ≡ Clean = a .gives x k .outcome in
             let says : lackOf m ≡ refused 13 m = simp (ne-eqb m 0 some) in
-            begun-to (after-lack c s o m (lack-is x k q ∙ says)) (ap (λ (u : ℕ). NoDeadline u m) k) (restored x o (a .gives x k .shows)) (λ z. absurd (omega arith)) (lacking-low c (sourced c s .run) m (lack-is x k q ∙ says));
+            begun-to (after-lack c s o m (lack-is x k q ∙ says)) (ap (λ (u : ℕ). NoDeadline u m) k) (restored x o (a .gives x k .shows)) (λ z. absurd (omega arith)) (lacking-exact c (sourced c s .run) m .0 (lack-is x k q ∙ says) .node);
       }
 
       pub begun-chooses : {i r : ℕ} → m ≡ 0 → ChosenGives g d r → BegunGives l f d t i g (record { kind = 0; node = r })

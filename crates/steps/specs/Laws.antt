@@ -1,8 +1,10 @@
 -- The steps of a tick over what a run lends, one law to each need of their code.
---   full-is                  whether a production fits is what 12 asks of the state that is shown
+--   full-is, -sink, -queue   whether a production fits is what 12 asks of the state that is shown, and how code tests it
 --   rooms-…                  the numbers of that test fit
 --   source-…                 the source's step
---   work-…                   one tick of work, and whether it is all that is to be done
+--   worked-done, work-…, ended-…
+--                            one tick of work, and whether it is all that is to be done
+--   shows-as                 a flow shows every state with the same counts and contents
 --   finish-…                 the effect of a firing that is finished
 use mathlib.Core.Path.{_≡_, refl, sym, ap, ap₂, subst, _∙_}
 use mathlib.Core.Logic.{_≢_, by-cases}

@@ -1,14 +1,13 @@
 -- The steps of a tick over what a run lends: what their code asks and gives of the chain and the state that are shown.
 --   l, f, d, e               a plan, a flow, the deadline of each node's next firing, and the work done
 --   Stands l f c s           the plan and the flow show a state that passes 17, and every count can grow
---   fullIn l f i, full-is    whether the production of N_i does not fit, which is what 12 asks of the state that is shown
+--   fullIn l f i, Rooms      whether the production of N_i does not fit, and what the code of that test asks
 --   Sources, SourcedTo, SourcedGives
 --                            what the source's step asks, what it makes of one state, and that it does so of every state that is shown
 --   Keeps d c s              of each node over threshold the deadline of its next firing is kept, or never
---   Looks, LackingGives, ChosenGives
+--   Looks, lackOf r, LackingGives, ChosenGives
 --                            the same of 13 and of the choice
---   workedIn e i, Works, worked-done
---                            one tick of work
+--   workedIn e i, Works      one tick of work, and what its code asks
 --   endedAt l e i            whether N_i has worked its execution time
 --   Ends, EndsIn, FinishedTo, FinishedGives
 --                            the same of the effect of a firing that is finished

@@ -2,23 +2,24 @@
 --   Looked f d j             13 says nothing of the first j nodes
 --   looked-none, -rests, -dated, -found, -end
 --                            at the start, past a node below threshold, past one whose deadline can be had, at one whose deadline cannot, and at the end
+--   choice c s j, earliestOf c s i
+--                            the choice among the first j nodes, and the deadline of N_i, or never for N_0
 --   Chosen f d j i e         i is the choice among the first j nodes, and e its deadline, or never where there is none
 --   chosen-none, -taken, -under, -later, -end
 --                            at the start, with node j+1 chosen, past it where it is below threshold or later, and at the end
 use mathlib.Core.Path.{_≡_, refl, sym, ap, subst, _∙_}
 use mathlib.Core.Logic.{_≢_, ⊎-elim, by-cases}
-use mathlib.Core.Bool.{Bool, true, false, cond, _&&_, not}
+use mathlib.Core.Bool.{Bool, true, false, cond, _&&_}
 use mathlib.Core.List.{List}
 use Prim.Native.Nat.{ℕ, zero, suc, _+_, _≤_, _<_}
 use native.Mathlib.Nat.{eq-or-lt-of-le}
 use native.Mathlib.Numerals.{add-one}
 use native.Mathlib.Decide.{ℕ-discrete, decLe}
 use native.Mathlib.Omega.{arith}
-use lib.Dec.{eqb}
 use lib.ListN.{getD}
-use borrow.Author.Tests.{eq-eqb, ne-eqb, le-leb, lt-leb}
+use borrow.Author.Tests.{ne-eqb, le-leb, lt-leb}
 use Rattle.words.specs.Table.{tab}
-use Rattle.chain.specs.Refusals.{refused, fine, Silent, lowest-is, all-silent, first-fine}
+use Rattle.chain.specs.Refusals.{refused, Silent, lowest-is, all-silent, first-fine}
 use Rattle.chain.specs.Record.{rowOf}
 use Rattle.chain.specs.Sound.{Sound}
 use Rattle.chain.specs.declared.Chain.{Chain}
@@ -29,6 +30,7 @@ use Rattle.state.specs.declared.Run.{Run}
 use Rattle.flow.specs.Flow.{thresholdIn, heldIn, sizeIn, Shows}
 use Rattle.deadlines.specs.Deadline.{deadline, indexCheck}
 use Rattle.deadline.specs.Question.{never, dated-had, dated-exact}
+use Rattle.instants.specs.Lacking.{lack-says, lack-silent, lacking-silent}
 use Rattle.instants.specs.Steps.{next, lackingTest, lacking, asEarly, choose, chosen}
 use Rattle.steps.specs.Lent.{Keeps, lackOf, LackingGives, ChosenGives}
 
@@ -40,20 +42,8 @@ module _ {f : List ℕ} {c : Chain} {s : Run} (x : Shows f c s) (j : ℕ) (l : j
   under-shown : heldIn f j < thresholdIn f j → over c s (suc j) ≡ false
   under-shown h = lt-leb (rowOf c j .threshold) (heldAt s j) (omega (arith, x .waits j l, x .holds j (omega (arith, x .few))))
 
--- 13 of one node
-module _ (c : Chain) (s : Run) (i : ℕ) where
-  lack-under : over c s i ≡ false → Silent (lackingTest c s i)
-  lack-under e = simp e
-
-  lack-had : Silent (indexCheck c i (next s i)) → Silent (lackingTest c s i)
-  lack-had z = by (over c s i)
-    where
-      by : (o : Bool) → (cond (o && not (eqb (indexCheck c i (next s i) .number) 0)) (refused 13 i) fine) .number ≡ 0
-      by true = simp (eq-eqb _ _ z)
-      by false = refl
-
-  lack-never : over c s i ≡ true → (Silent (indexCheck c i (next s i)) → ⊥) → lackingTest c s i ≡ refused 13 i
-  lack-never o n = simp (o, ne-eqb _ _ n)
+  not-over : heldIn f j < thresholdIn f j → Over c s (suc j) → ⊥
+  not-over h o = absurd (omega (arith, h, o, x .waits j l, x .holds j (omega (arith, x .few))))
 
 -- 13 of N_(j+1), which code counts from 0
 lack-at : (j : ℕ) → refused 13 (suc j) ≡ lackOf (j + 1)
@@ -79,14 +69,11 @@ module _ {f d : List ℕ} {j : ℕ} (a : Looked f d j) (h : j < sizeIn f) where
   }
 
   pub looked-rests : heldIn f j < thresholdIn f j → Looked f d (j + 1)
-  looked-rests low = looked-more (λ c s k x e l. lack-under c s (suc j) (under-shown x j l low))
+  looked-rests low = looked-more (λ c s k x e l. lack-silent c s (suc j) .1 (λ o. absurd (not-over x j l low o)))
 
   pub looked-dated : getD d j 0 ≢ never → Looked f d (j + 1)
-  looked-dated some = looked-more (λ c s k x e l. by-cases (decLe (rowOf c j .threshold) (heldAt s j))
-      (λ o. by-cases (ℕ-discrete (indexCheck c (suc j) (next s (suc j)) .number) 0)
-      (λ z. lack-had c s (suc j) z)
-      (λ n. absurd (some (e .due j l o ∙ dated-exact k (suc j) (next s (suc j)) .1 n))))
-      (λ n. lack-under c s (suc j) (lt-leb (rowOf c j .threshold) (heldAt s j) (omega arith))))
+  looked-dated some = looked-more (λ c s k x e l. lack-silent c s (suc j) .1 (λ o.
+      by-cases (ℕ-discrete (indexCheck c (suc j) (next s (suc j)) .number) 0) (λ z. z) (λ n. absurd (some (e .due j l o ∙ dated-exact k (suc j) (next s (suc j)) .1 n)))))
 
   pub looked-found : thresholdIn f j ≤ heldIn f j → getD d j 0 ≡ never → LackingGives f d (j + 1)
   unfolding lacking
@@ -94,7 +81,7 @@ module _ {f d : List ℕ} {j : ℕ} (a : Looked f d j) (h : j < sizeIn f) where
     gives = λ {c} {s} k x e.
         let l : j < c .n = omega (arith, x .many) in
         let says : lackingTest c s (suc j) ≡ refused 13 (suc j) =
-        lack-never c s (suc j) (le-leb _ _ (over-shown x j l o)) (dated-exact k (suc j) (next s (suc j)) .0 (sym (e .due j l (over-shown x j l o)) ∙ z)) in
+        lack-says c s (suc j) (suc j) .1 ((over-shown x j l o, dated-exact k (suc j) (next s (suc j)) .0 (sym (e .due j l (over-shown x j l o)) ∙ z)), refl) in
         lowest-is 13 (suc j) (λ q. omega arith) (λ m. lackingTest c s (suc m)) (c .n) .1 (record { at = j; inside = l; says = says; before = λ m g. a .silent k x e m g })
         ∙ lack-at j;
   }
@@ -124,14 +111,11 @@ unfolding choose
 chosen-none f d = record { reach = omega arith; is = λ k x e z. (refl, refl) }
 
 -- what is kept of a node over threshold, where 13 is silent
-kept-due : {f d : List ℕ} {c : Chain} {s : Run} → Sound c → Shows f c s → Keeps d c s → Silent (lacking c s) → (j : ℕ) → j < c .n → Over c s (suc j) → (getD d j 0 ≡ deadline c (suc j) (next s (suc j))) × (getD d j 0 < never)
-unfolding lacking
-kept-due {f} {d} {c} {s} k x e z j l o = by-cases (ℕ-discrete (indexCheck c (suc j) (next s (suc j)) .number) 0)
-    (λ had. let h = dated-had k (suc j) (next s (suc j)) had in (e .due j l o ∙ h .0, omega (arith, e .due j l o, h .1)))
-    (λ n.
-    let none : Silent (lackingTest c s (suc j)) = all-silent (λ m. lackingTest c s (suc m)) (c .n) .0 z j l in
-    let says : 13 ≡ 0 = sym (ap (λ r. r .number) (lack-never c s (suc j) (le-leb _ _ o) n)) ∙ none in
-    absurd (omega arith))
+kept-due : {f d : List ℕ} {c : Chain} {s : Run} → Sound c → Shows f c s → Keeps d c s → Silent (lacking c s) → (j : ℕ) → j < c .n → Over c s (suc j)
+    → (getD d j 0 ≡ deadline c (suc j) (next s (suc j))) × (getD d j 0 < never)
+kept-due {f} {d} {c} {s} k x e z j l o =
+    let h = dated-had k (suc j) (next s (suc j)) (lacking-silent c s .0 z j l o) in
+    (e .due j l o ∙ h .0, omega (arith, e .due j l o, h .1))
 
 -- the choice with one node more, as its definition has it
 module _ (c : Chain) (s : Run) (j : ℕ) where

@@ -1,10 +1,10 @@
 -- One tick over what a run lends, one law to each need of its code.
---   begun-stays              an outcome of the source's step and 13 leaves the state as it was
 --   tick-ends, tick-works    a tick that ends with that outcome, and one that goes on
 --   as-clean, as-unclean     the code 0 is clean, and no other is
 --   Working c s g i          what a tick knows once the source's step and 13 were clean: the state, and the node that works
 --   pass-ends                the tick ends there
---   pass-node, -works        the node that works is one of the chain, and its work can grow
+--   Before, others-kept      the queue before a node that has worked its execution time, and that its effect changes no other count
+--   working, pass-works      what a clean beginning gives, and that the work of its node can grow
 --   pass-goes                it has not worked its execution time: the tick is clean, and nothing takes effect
 --   pass-finishes            it has: what the effect of its firing asks
 --   pass-fires, -spills      the firing takes effect, or does not fit
@@ -28,8 +28,8 @@ use Rattle.flow.specs.Flow.{Shows}
 use Rattle.deadlines.specs.Deadline.{deadline}
 use Rattle.deadline.specs.Plan.{workIn}
 use Rattle.deadline.specs.Dues.{Shown}
-use Rattle.instants.specs.Steps.{clean, undated, goes, onward, withDone, sourced, lacking, choose, chosen, worked, ended, finish, finished, begun, tick}
-use Rattle.instants.specs.Kept.{finish-cases, sourced-stays, Running, SourceStep, sourced-clean, begun-clean, chosen-low, chosen-over, worked-counts, worked-held, worked-clock, worked-same, works-on, works-ends, unclean-overflow, unclean-undated, tick-parts, fired-clock}
+use Rattle.instants.specs.Steps.{clean, goes, onward, withDone, sourced, lacking, choose, chosen, worked, ended, finish, finished, begun, tick}
+use Rattle.instants.specs.Kept.{finish-cases, begun-stays, Running, SourceStep, sourced-clean, begun-clean, chosen-low, chosen-over, worked-counts, worked-held, worked-clock, worked-same, works-on, works-ends, unclean-overflow, unclean-undated, tick-begun, fired-clock}
 use Rattle.instants.specs.declared.Outcome.{Outcome}
 use Rattle.instants.specs.declared.Outcome.the-variants.{Clean, Overflowed, NoDeadline}
 use Rattle.instants.specs.declared.Ticked.{Ticked}
@@ -38,25 +38,11 @@ use Rattle.steps.specs.Laws.{worked-done, shows-as}
 use Rattle.steps.specs.Passed.{PassIn, Passes, PassTo, PassGives}
 use Rattle.steps.specs.declared.Start.{Start}
 
--- an outcome of the source's step leaves the state as it was, and so does 13
-pub begun-stays : (c : Chain) (s : Run) → (begun c s .outcome ≡ Clean → ⊥) → begun c s .run ≡ s
-unfolding begun onward
-begun-stays c s = by (sourced c s .outcome) (sourced c s .run) _ (sourced-stays c s) (λ v. lacks v (eqb (lacking c v .number) 0))
-  where
-    lacks : (v : Run) (b : Bool) → ((cond b (clean v) (undated s (s .clock) (lacking c v .place))) .outcome ≡ Clean → ⊥) → (cond b (clean v) (undated s (s .clock) (lacking c v .place))) .run ≡ s
-    lacks v true n = absurd (n refl)
-    lacks v false n = refl
-
-    by : (o : Outcome) (u : Run) (f : Run → Ticked) → ((o ≡ Clean → ⊥) → u ≡ s) → ((v : Run) → (f v .outcome ≡ Clean → ⊥) → f v .run ≡ s) → (goes o u f .outcome ≡ Clean → ⊥) → goes o u f .run ≡ s
-    by Clean u f stays next n = next u n
-    by (Overflowed t q) u f stays next n = stays unclean-overflow
-    by (NoDeadline t i) u f stays next n = stays unclean-undated
-
 module _ (c : Chain) (s : Run) where
   -- a tick that ends with the outcome of the source's step or of 13
   pub tick-ends : (begun c s .outcome ≡ Clean → ⊥) → tick c s ≡ begun c s
   unfolding onward
-  tick-ends n = tick-parts c s ∙ by (begun c s .outcome) (begun c s .run) n
+  tick-ends n = tick-begun c s ∙ by (begun c s .outcome) (begun c s .run) n
     where
       by : (o : Outcome) (u : Run) → (o ≡ Clean → ⊥) → goes o u (λ v. finished c (worked v (chosen c v))) ≡ record { outcome = o; run = u }
       by Clean u n = absurd (n refl)
@@ -66,7 +52,7 @@ module _ (c : Chain) (s : Run) where
   -- and one that goes on
   pub tick-works : begun c s .outcome ≡ Clean → tick c s ≡ finished c (worked (begun c s .run) (chosen c (begun c s .run)))
   unfolding onward goes
-  tick-works e = tick-parts c s ∙ ap (λ (o : Outcome). goes o (begun c s .run) (λ v. finished c (worked v (chosen c v)))) e
+  tick-works e = tick-begun c s ∙ ap (λ (o : Outcome). goes o (begun c s .run) (λ v. finished c (worked v (chosen c v)))) e
 
 -- 13 and the choice look at counts and contents alone
 lacking-as : (c : Chain) (s t : Run) → t .counts ≡ s .counts → t .held ≡ s .held → lacking c t ≡ lacking c s

@@ -1,9 +1,7 @@
 -- The instants of a trace (01, Firing).
 --   Rising a h b               the instants of h never fall, the first being a or later and the last b or earlier
---   rising-ends                then a is at most b
 --   rising-later, rising-append
---                              one trace and then another
---   rising-from                what follows an entry is not earlier than it
+--                              a trace from an earlier instant on, and one trace and then another
 --   tick-rising, trace-rising  the instants of one tick, and of so many, lie between the clock before and the clock after
 --   run-rising                 those of a deadline run, from a fresh start
 use mathlib.Core.Path.{sym, subst}
@@ -32,13 +30,7 @@ unfoldable pub Rising : ℕ → List Entry → ℕ → Type 0
 Rising a [] b = a ≤ b
 Rising a (e ∷ h) b = (a ≤ e .0) × Rising (e .0) h b
 
--- the last instant is not before the first
-pub rising-ends : (a : ℕ) (h : List Entry) (b : ℕ) → Rising a h b → a ≤ b
-unfolding Rising
-rising-ends a [] b r = r
-rising-ends a (e ∷ h) b r = le-trans (r .0) (rising-ends (e .0) h b (r .1))
-
--- a trace that begins at an instant begins at an earlier one or later
+-- a trace from b on is a trace from any earlier a on
 pub rising-later : (a b : ℕ) (h : List Entry) (d : ℕ) → a ≤ b → Rising b h d → Rising a h d
 unfolding Rising
 rising-later a b [] d l r = le-trans l r
@@ -49,12 +41,6 @@ pub rising-append : (a : ℕ) (g : List Entry) (b : ℕ) (h : List Entry) (d : �
 unfolding Rising
 rising-append a [] b h d r q = rising-later a b h d r q
 rising-append a (e ∷ g) b h d r q = (r .0, rising-append (e .0) g b h d (r .1) q)
-
--- an entry in the midst of a trace: nothing before it is later and nothing after it is earlier
-pub rising-from : (a : ℕ) (g : List Entry) (e : Entry) (h : List Entry) (b : ℕ) → Rising a (g ++ (e ∷ h)) b → Rising a g (e .0) × Rising (e .0) h b
-unfolding Rising
-rising-from a [] e h b r = r
-rising-from a (f ∷ g) e h b r = let k = rising-from (f .0) g e h b (r .1) in ((r .0, k .0), k .1)
 
 module _ (c : Chain) where
   -- what 13 makes of a state with the clock of s

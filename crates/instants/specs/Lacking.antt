@@ -1,0 +1,82 @@
+-- 13 of a tick and a run: when it is said (01, Firing).
+--   lack-says, lack-silent     13 of one node: speaking where it is over threshold and its deadline can't be had, and silent elsewhere
+--   FirstLacking               13 in words: the lowest such node
+--   lacking-exact, -silent     13 speaks exactly under its condition, and is silent exactly elsewhere
+use mathlib.Core.Path.{_≡_, refl, sym, _∙_}
+use mathlib.Core.Logic.{_↔_, by-cases, Iff·trans, Iff·and, Iff·rfl}
+use mathlib.Core.Bool.{Bool, true, false, _&&_, not, true≢false}
+use Prim.Native.Nat.{ℕ, zero, suc, _≤_, _<_}
+use native.Mathlib.Decide.{ℕ-discrete}
+use native.Mathlib.Omega.{arith}
+use lib.Dec.{eqb}
+use Rattle.chain.specs.Tests.{equal-true, and-true, negated-true, negated-false}
+use Rattle.chain.specs.Refusals.{refused, Silent, Lowest, lowest-is, all-silent, test-exact, test-silent}
+use Rattle.chain.specs.declared.Chain.{Chain}
+use Rattle.state.specs.Fired.{Over}
+use Rattle.state.specs.Checks.{over, over-true}
+use Rattle.state.specs.declared.Run.{Run}
+use Rattle.deadlines.specs.Deadline.{indexCheck}
+use Rattle.instants.specs.Steps.{next, lackingTest, lacking}
+
+-- 13 in words: L is the lowest node over threshold whose deadline can't be had
+pub record FirstLacking (c : Chain) (s : Run) (L : ℕ) : Type 0 where
+  pub some : 0 < L
+  pub node : L ≤ c .n
+  pub over : Over c s L
+  pub lacks : Silent (indexCheck c L (next s L)) → ⊥
+  pub before : (j : ℕ) → 0 < j → j < L → Over c s j → Silent (indexCheck c j (next s j))
+
+module _ (c : Chain) (s : Run) where
+  -- 13 of one node
+  pub lack-says : (i L : ℕ) → (lackingTest c s i ≡ refused 13 L) ↔ ((Over c s i × (Silent (indexCheck c i (next s i)) → ⊥)) × (L ≡ i))
+  lack-says i L = Iff·trans (test-exact 13 L i (λ e. omega arith) _) (Iff·and (and-true (over-true c s i) (negated-true (equal-true _ _))) Iff·rfl)
+
+  pub lack-silent : (i : ℕ) → Silent (lackingTest c s i) ↔ (Over c s i → Silent (indexCheck c i (next s i)))
+  lack-silent i = Iff·trans (test-silent 13 i (λ e. omega arith) _) (out, back)
+    where
+      out : (over c s i && not (eqb (indexCheck c i (next s i) .number) 0)) ≡ false → Over c s i → Silent (indexCheck c i (next s i))
+      out e o = by-cases (ℕ-discrete (indexCheck c i (next s i) .number) 0) (λ z. z)
+          (λ n. absurd (true≢false (sym (and-true (over-true c s i) (negated-true (equal-true _ _)) .1 (o, n)) ∙ e)))
+
+      by : (b : Bool) → over c s i ≡ b → (Over c s i → Silent (indexCheck c i (next s i))) → (b && not (eqb (indexCheck c i (next s i) .number) 0)) ≡ false
+      by true e h = negated-false (equal-true _ _) .1 (h (over-true c s i .0 e))
+      by false e h = refl
+
+      back : (Over c s i → Silent (indexCheck c i (next s i))) → (over c s i && not (eqb (indexCheck c i (next s i) .number) 0)) ≡ false
+      back h = by (over c s i) refl h
+
+  -- the nodes before the one found, and the node that is the first, which the list counts from 0
+  before-found : {m : ℕ} (j : ℕ) → 0 < j → j < suc m → ((k : ℕ) → k < m → Silent (lackingTest c s (suc k))) → Over c s j → Silent (indexCheck c j (next s j))
+  before-found zero p l h o = absurd (omega arith)
+  before-found (suc k) p l h o = lack-silent (suc k) .0 (h k (omega arith)) o
+
+  found : (m : ℕ) → FirstLacking c s m → Lowest (λ j. lackingTest c s (suc j)) (c .n) 13 m
+  found zero g = absurd (omega (arith, g .some))
+  found (suc m) g = record {
+    at = m;
+    inside = g .node;
+    says = lack-says (suc m) (suc m) .1 ((g .over, g .lacks), refl);
+    before = λ j l. lack-silent (suc j) .1 (g .before (suc j) (omega arith) (omega arith));
+  }
+
+  pub lacking-exact : (L : ℕ) → (lacking c s ≡ refused 13 L) ↔ FirstLacking c s L
+  unfolding lacking
+  lacking-exact L = Iff·trans (lowest-is 13 L (λ e. omega arith) (λ j. lackingTest c s (suc j)) (c .n)) (out, back)
+    where
+      out : Lowest (λ j. lackingTest c s (suc j)) (c .n) 13 L → FirstLacking c s L
+      out f =
+          let e = lack-says (suc (f .at)) L .0 (f .says) in
+          rw (e .1) (record {
+            some = omega arith;
+            node = f .inside;
+            over = e .0 .0;
+            lacks = e .0 .1;
+            before = λ j p l. before-found j p l (f .before);
+          })
+
+      back : FirstLacking c s L → Lowest (λ j. lackingTest c s (suc j)) (c .n) 13 L
+      back f = found L f
+
+  pub lacking-silent : Silent (lacking c s) ↔ ((j : ℕ) → j < c .n → Over c s (suc j) → Silent (indexCheck c (suc j) (next s (suc j))))
+  unfolding lacking
+  lacking-silent = Iff·trans (all-silent (λ j. lackingTest c s (suc j)) (c .n)) (λ h j l. lack-silent (suc j) .0 (h j l), λ h j l. lack-silent (suc j) .1 (h j l))
