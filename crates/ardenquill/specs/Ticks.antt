@@ -6,7 +6,8 @@ unfoldable pub use Rattle.instants.specs.Checks.{spentCheck, tickRefusal, deadl
 pub use Rattle.instants.specs.Checks.{longest, clockCheck, spentTest, tickChecks, lengthCheck, deadlineRunChecks}
 pub use Rattle.instants.specs.Refusals.{clock-exact, clock-silent, clock-only, FirstSpent, LateOrSpent, spent-exact, spent-silent, spent-only, length-exact, length-silent, length-only, tick-parts, tick-17, tick-9, tick-earlier, tick-accepts, Ticking, ticking-is, deadline-run-parts, deadline-run-9, deadline-run-earlier, deadline-run-accepts, ranAs, refusedAs, tick-ran, tick-refused, deadline-run-ran, deadline-run-refused}
 pub use Rattle.instants.specs.Runs.{onward-clean, onward-none, onward-then, instants-ticks, ticks-more}
-pub use Rattle.instants.specs.Kept.{Running, TickStep, Countable, tick-step}
+pub use Rattle.instants.specs.Kept.{Running, TickStep, Countable, tick-step, begun-stays}
+pub use Rattle.instants.specs.Lacking.{FirstLacking, lacking-exact, lacking-silent}
 pub use Rattle.instants.specs.Fresh.{fresh-running, fresh-rests, run-is-ticks, Paced, fresh-paced, paced-countable, tick-paced}
 pub use Rattle.instants.specs.Best.{First, Best, choose-best, best-unique, choose-is, chosen-best, chosen-only, choose-shift, chosen-shift}
 pub use Rattle.instants.specs.Spill.{room-after-choice, finish-never-spills, ticks-never-spill, run-never-spills}
@@ -15,6 +16,6 @@ pub use Rattle.traces.specs.Trace.{Entry, nodes, resting, Replays}
 pub use Rattle.traces.specs.Traced.{tick-traced, traced, run-traced, run-counted, run-balance, run-naming}
 unfoldable pub use Rattle.traces.specs.Rising.{Rising}
 pub use Rattle.traces.specs.Rising.{tick-rising, trace-rising, run-rising}
-pub use Rattle.tickpast.specs.Deadlines.{deadline-alike, index-alike}
+pub use Rattle.tickpast.specs.Deadlines.{deadline-alike, index-alike, question-alike}
 pub use Rattle.tickpast.specs.Slots.{KeptSlots}
-pub use Rattle.tickpast.specs.Answers.{AlikeAnswers, past-n, past-kept, whole-kept, deadline-run-alike, deadline-run-kept, deadline-run-whole}
+pub use Rattle.tickpast.specs.Answers.{AlikeAnswers, past-n, past-kept, whole-kept, tick-answer-same, deadline-run-alike, deadline-run-kept, deadline-run-whole}

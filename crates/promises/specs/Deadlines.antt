@@ -116,7 +116,7 @@ module _ (c : Chain) (T : ℕ) (ran : DeadlineRuns c T) where
   pub run-state : replayAnswer c firings .run ≡ resting (deadlineRunAnswer c T .run)
   run-state = fires-state c firings run-fires ∙ run-traced accepted T (parts .1) .1 ∙ ap (λ (a : TickAnswer). resting (a .run)) (sym answer-is)
 
-  -- a count is how often the node firings
+  -- a count is how often the node fired
   pub run-counted : (i : ℕ) → i ≤ c .n → countAt (deadlineRunAnswer c T .run) i ≡ times i firings
   run-counted i l = ap (λ (s : Run). countAt s i) (sym run-state) ∙ demand.counted c firings run-fires i l
 

@@ -4,7 +4,7 @@
 --   ended-low                the node whose work is done is a node of the chain
 --   sourced-, lacking-, chosen-, worked-, ended-, finish- and finished-alike
 --                            the parts of a tick
---   begun-, advanced-, tick-, ticks- and instants-alike
+--   begun-, advanced-, tick- and instants-alike
 --                            a tick, and a run
 --   spent- and tick-refusal-alike, deadline-run-refusal-alike
 --                            they are refused alike
@@ -30,7 +30,7 @@ use Rattle.state.specs.declared.Run.{Run}
 use Rattle.past.specs.Chains.{AlikeChains, run-alike}
 use Rattle.past.specs.Runs.{AlikeRuns, state-alike, over-alike, cramped-alike}
 use Rattle.deadlines.specs.Deadline.{deadline, indexCheck}
-use Rattle.instants.specs.Steps.{clean, overflowed, undated, withDone, divides, sourced, next, lackingTest, lacking, asEarly, choose, chosen, worked, endedIn, ended, finish, finished, begun, advanced, tick, ticks, instants}
+use Rattle.instants.specs.Steps.{clean, overflowed, undated, withDone, divides, sourced, next, lackingTest, lacking, asEarly, choose, chosen, worked, endedIn, ended, finish, finished, begun, advanced, tick, instants}
 use Rattle.instants.specs.Checks.{longest, spentTest, spentCheck, lengthCheck, tickRefusal, deadlineRunRefusal}
 use Rattle.instants.specs.Best.{choose-best}
 use Rattle.instants.specs.Kept.{chosen-low}
@@ -181,13 +181,7 @@ module _ {c d : Chain} (a : AlikeChains c d) where
   unfolding tick
   tick-alike r = alike-onward _ _ (advanced-alike r) (λ u v w. finished-alike w)
 
-  -- so many of them
-  pub ticks-alike : (T : ℕ) {s t : Run} → AlikeStates (c .n) s t → AlikeTicked (c .n) (ticks c T s) (ticks d T t)
-  unfolding ticks
-  ticks-alike zero r = alike-clean r
-  ticks-alike (suc T) r = alike-onward _ _ (tick-alike r) (λ u v w. ticks-alike T w)
-
-  -- and so many instants
+  -- so many instants
   pub instants-alike : (T : ℕ) {s t : Run} → AlikeStates (c .n) s t → AlikeTicked (c .n) (instants c T s) (instants d T t)
   unfolding instants
   instants-alike zero r = finished-alike r

@@ -3,7 +3,7 @@
 --   past-n                   chains and states that differ in slots past n only have such answers of a tick
 --   past-kept                each of which has its own slots past n as they were
 --   whole-kept               and as many slots
---   same-ticked, tick-same, ticks-same, instants-same, tick-answer-same
+--   same-ticked, tick-same, instants-same, tick-answer-same
 --                            so from one state they have the same outcome and the same state
 --   deadline-run-alike       and a deadline run has one answer
 --   deadline-run-kept, -whole
@@ -18,15 +18,15 @@ use Rattle.state.specs.State.{emptyRun, freshRun, fresh-empty}
 use Rattle.state.specs.declared.Run.{Run}
 use Rattle.past.specs.Chains.{AlikeChains}
 use Rattle.past.specs.Runs.{AlikeRuns, Whole}
-use Rattle.instants.specs.Steps.{tick, ticks, instants}
+use Rattle.instants.specs.Steps.{tick, instants}
 use Rattle.instants.specs.Checks.{tickRefusal, deadlineRunRefusal, outcomeOf, tickAnswer, deadlineRunAnswer}
 use Rattle.instants.specs.declared.Outcome.{Outcome}
 use Rattle.instants.specs.declared.Outcome.the-variants.{Clean}
 use Rattle.instants.specs.declared.Ticked.{Ticked}
 use Rattle.instants.specs.declared.TickAnswer.{TickAnswer}
 use Rattle.tickpast.specs.Slots.{KeptSlots, AlikeTicked, states-of, states-refl, runs-of, kept-refl, kept-whole, same-state}
-use Rattle.tickpast.specs.Alike.{tick-alike, ticks-alike, instants-alike, tick-refusal-alike, deadline-run-refusal-alike}
-use Rattle.tickpast.specs.Kept.{tick-kept, ticks-kept, instants-kept}
+use Rattle.tickpast.specs.Alike.{tick-alike, instants-alike, tick-refusal-alike, deadline-run-refusal-alike}
+use Rattle.tickpast.specs.Kept.{tick-kept, instants-kept}
 
 -- two answers that agree on all but the slots past n of the state
 pub record AlikeAnswers (n : ℕ) (x y : TickAnswer) : Type 0 where
@@ -85,10 +85,6 @@ module _ {c d : Chain} (a : AlikeChains c d) where
   pub tick-answer-same : (s : Run) → tickAnswer c s ≡ tickAnswer d s
   unfolding tickAnswer
   tick-answer-same s = let e = tick-refusal-alike a (runs-of (states-refl s)) in λ i. outcomeOf (e i) s (tick-same s i)
-
-  -- so many ticks
-  pub ticks-same : (T : ℕ) (s : Run) → ticks c T s ≡ ticks d T s
-  ticks-same T s = same-ticked (ticks-kept c T s) (rw (a .n) (ticks-kept d T s)) (ticks-alike a T (states-refl s))
 
   -- so many instants
   pub instants-same : (T : ℕ) (s : Run) → instants c T s ≡ instants d T s

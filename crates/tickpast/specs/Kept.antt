@@ -2,7 +2,7 @@
 --   fired-kept, worked-kept  a firing of a node of the chain, and one tick of work
 --   sourced-, finish-, finished-, begun- and advanced-kept
 --                            the parts of a tick
---   tick-, ticks- and instants-kept
+--   tick- and instants-kept
 --                            a tick, and a run
 use mathlib.Core.Path.{_≡_, refl}
 use mathlib.Core.Bool.{Bool, true, false, cond}
@@ -19,7 +19,7 @@ use Rattle.state.specs.Fired.{produced, consumed, fired}
 use Rattle.state.specs.Checks.{cramped}
 use Rattle.state.specs.declared.Run.{Run}
 use Rattle.instants.specs.Kept.{chosen-low}
-use Rattle.instants.specs.Steps.{clean, undated, onward, withDone, divides, sourced, lacking, chosen, worked, ended, finish, finished, begun, advanced, tick, ticks, instants}
+use Rattle.instants.specs.Steps.{clean, undated, onward, withDone, divides, sourced, lacking, chosen, worked, ended, finish, finished, begun, advanced, tick, instants}
 use Rattle.tickpast.specs.Slots.{KeptList, kept-set, kept-list, kept-lists, KeptSlots, kept-refl, kept-trans, kept-cond, kept-onward}
 use Rattle.tickpast.specs.Alike.{ended-low}
 
@@ -88,13 +88,7 @@ module _ (c : Chain) where
   unfolding tick
   tick-kept s = kept-onward (advanced c s) (finished c) (advanced-kept s) (λ u k. kept-trans k (finished-kept u))
 
-  -- so many of them
-  pub ticks-kept : (T : ℕ) (s : Run) → KeptSlots (c .n) s (ticks c T s .run)
-  unfolding ticks
-  ticks-kept zero s = kept-refl s
-  ticks-kept (suc T) s = kept-onward (tick c s) (ticks c T) (tick-kept s) (λ u k. kept-trans k (ticks-kept T u))
-
-  -- and so many instants
+  -- so many instants
   pub instants-kept : (T : ℕ) (s : Run) → KeptSlots (c .n) s (instants c T s .run)
   unfolding instants
   instants-kept zero s = finished-kept s
