@@ -12,14 +12,12 @@ use Rattle.chain.specs.Record.{rowOf}
 use Rattle.chain.specs.Sound.{Sound}
 use Rattle.chain.specs.declared.Refusal.{Refusal}
 use Rattle.chain.specs.declared.Chain.{Chain}
-use Rattle.sizing.specs.Checks.{limit, runAnswer}
-use Rattle.sizing.specs.Accepted.{run-said}
-use Rattle.sizing.specs.declared.AnalysisAnswer.{AnalysisAnswer}
+use Rattle.sizing.specs.Checks.{limit}
+use Rattle.sizing.specs.Plan.{RunPlans}
 use Rattle.state.specs.State.{freshRun}
-use Rattle.state.specs.Checks.{analysed-run}
+use Rattle.state.specs.Checks.{planned-run}
 use Rattle.flow.specs.Flow.{countIn, Shows}
 use Rattle.deadlines.specs.Deadline.{earlier, deadline, indexCheck, index-only}
-use Rattle.deadline.specs.Plan.{Plans}
 use Rattle.deadline.specs.Question.{answeredDue, refusedWith, answered-refused, answered-fine, never, datedOf, askCheck, deadlineChecks, deadlineRefusal, deadlineAnswer, ask-silent, deadline-parts, dated-had, dated-never, dated-exact}
 use Rattle.deadline.specs.Dues.{Dues, DueGives, PassingGives, Dated, DatedGives}
 
@@ -37,21 +35,21 @@ index-last c (suc i) k = by (ltb limit k) (index-last c i (earlier (rowOf c i) k
     by true e = refl
     by false e = e
 
-module _ (c : Chain) (i k : ℕ) {a : AnalysisAnswer} (e : a ≡ runAnswer c) where
+module _ (c : Chain) (i k : ℕ) {l : List ℕ} {w : Refusal} (e : RunPlans c l w) where
   -- a refusal gives no deadline
   back : {r : Refusal} → r ≡ deadlineRefusal c i k → (Silent r → ⊥) → refusedWith (r .number) (r .place) ≡ deadlineAnswer c i k
   unfolding deadlineAnswer
   back {r} f n = answered-refused r (deadline c i k) n ∙ ap (λ (g : Refusal). answeredDue g (deadline c i k)) f
 
-  pub chain-refuses : (a .number ≡ 0 → ⊥) → refusedWith (a .number) (a .place) ≡ deadlineAnswer c i k
-  chain-refuses n = back (or-left _ (run-said c e) n ∙ sym (deadline-parts c i k)) n
+  pub chain-refuses : (Silent w → ⊥) → refusedWith (w .number) (w .place) ≡ deadlineAnswer c i k
+  chain-refuses n = back (or-left _ (e .says) n ∙ sym (deadline-parts c i k)) n
 
-  module _ (z : a .number ≡ 0) where
+  module _ (z : Silent w) where
     pub sound-chain : Sound c
-    sound-chain = analysed-run c e z .chain
+    sound-chain = planned-run e z .chain
 
     own : {r : Refusal} → r ≡ first (askCheck c i k ∷ indexCheck c i k ∷ []) → r ≡ deadlineRefusal c i k
-    own f = or-right (run-said c e) z f ∙ sym (deadline-parts c i k)
+    own f = or-right (e .says) z f ∙ sym (deadline-parts c i k)
 
     pub ask-refuses : (ltb (c .n) i || eqb k 0) ≡ true → refusedWith 11 i ≡ deadlineAnswer c i k
     unfolding first
@@ -61,11 +59,11 @@ module _ (c : Chain) (i k : ℕ) {a : AnalysisAnswer} (e : a ≡ runAnswer c) wh
       asked : Silent (askCheck c i k)
       asked = test-silent 11 i (λ q. omega arith) (ltb (c .n) i || eqb k 0) .1 t
 
-      pub fresh-dues : {l f : List ℕ} → Plans l c → Shows f c (freshRun c) → Dues l f i k
-      fresh-dues p s = record {
+      pub fresh-dues : {f : List ℕ} → Shows f c (freshRun c) → Dues l f i k
+      fresh-dues s = record {
         chain = c;
         run = freshRun c;
-        shown = record { plans = p; shows = s };
+        shown = record { plans = e .plans z; shows = s };
         sound = sound-chain;
         node = ask-silent c i k .0 asked .0;
         index = ask-silent c i k .0 asked .1;
@@ -76,14 +74,14 @@ module _ (c : Chain) (i k : ℕ) {a : AnalysisAnswer} (e : a ≡ runAnswer c) wh
       unfolding first
       last = own (or-right {a = askCheck c i k} refl asked (sym (index-last c i k)))
 
-      module _ {l f : List ℕ} (p : Plans l c) (s : Shows f c (freshRun c)) {d : ℕ} (g : DueGives l f i k d) where
+      module _ {f : List ℕ} (s : Shows f c (freshRun c)) {d : ℕ} (g : DueGives l f i k d) where
         due : d ≡ datedOf c i k
-        due = g .due (record { plans = p; shows = s })
+        due = g .due (record { plans = e .plans z; shows = s })
 
         pub never-answers : d ≡ never → {j : ℕ} → PassingGives l f i k j → refusedWith 13 j ≡ deadlineAnswer c i k
-        never-answers z {j} h =
-            let n : Silent (indexCheck c i k) → ⊥ = dated-exact sound-chain i k .0 (sym due ∙ z) in
-            let place : j ≡ indexCheck c i k .place = h .place (record { plans = p; shows = s }) in
+        never-answers q {j} h =
+            let n : Silent (indexCheck c i k) → ⊥ = dated-exact sound-chain i k .0 (sym due ∙ q) in
+            let place : j ≡ indexCheck c i k .place = h .place (record { plans = e .plans z; shows = s }) in
             ap₂ refusedWith (sym (index-only c i k n)) place ∙ back last n
 
         pub had-answers : (d ≡ never → ⊥) → record { number = 0; place = 0; due = d } ≡ deadlineAnswer c i k

@@ -13,7 +13,7 @@ use Rattle.sizing.specs.Checks.{limit}
 use Rattle.state.specs.declared.Run.{Run}
 use Rattle.flow.specs.Flow.{produceIn, consumeIn}
 use Rattle.deadlines.specs.Deadline.{earlier, deadline, indexCheck, earlier-some}
-use Rattle.deadline.specs.Plan.{capacityIn, periodIn}
+use Rattle.sizing.specs.Plan.{capacityIn, periodIn}
 use Rattle.deadline.specs.Question.{never, datedOf}
 use Rattle.deadline.specs.Dues.{Step, Shown, Dues, DueGives, PassingGives}
 

@@ -17,7 +17,7 @@ use Rattle.state.specs.State.{countAt}
 use Rattle.state.specs.declared.Run.{Run}
 use Rattle.flow.specs.Flow.{Shows}
 use Rattle.deadlines.specs.Deadline.{indexCheck}
-use Rattle.deadline.specs.Plan.{Plans}
+use Rattle.sizing.specs.Plan.{Plans}
 use Rattle.deadline.specs.Question.{datedOf}
 
 -- the numbers of one step down: p, c and B of the queue, and the index k at the node that it feeds

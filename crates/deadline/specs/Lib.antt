@@ -1,4 +1,3 @@
-pub mod Plan
 pub mod Question
 pub mod Dues
 pub mod Figures

@@ -2,8 +2,6 @@
 // functions that call themselves for the node before.
 ghost use mathlib.Core.Path.{_≡_};
 ghost use Prim.Native.Nat.{_+_, _-_, _*_, _/_, _≤_};
-ghost use Rattle.state.specs.Checks.{Analysed};
-ghost use Rattle.deadline.specs.Plan.{Plans};
 ghost use Rattle.deadline.specs.Question.{refusedWith, deadlineAnswer};
 ghost use Rattle.deadline.specs.Dues.{Step, Dues, DueGives, PassingGives, Dated, DatedGives};
 use chain::Chain;
@@ -11,18 +9,9 @@ use flow::CONSUME;
 use flow::COUNTS;
 use flow::LENGTH;
 use flow::PRODUCE;
-use sizing::Analysis;
-
-// A plan is what deadlines and work are made from, in one array of words that code lends from call to call beside a flow.
-// How many words it has, and where they lie: each queue's capacity in force, the execution time of the node that the queue
-// feeds, and the source's period.
-pub const PLAN: usize = 33;
-
-pub const CAPACITY: usize = 0;
-
-pub const WORK: usize = 16;
-
-pub const PERIOD: usize = 32;
+use sizing::CAPACITY;
+use sizing::PERIOD;
+use sizing::PLAN;
 
 // What stands for a deadline that cannot be had; every other is below it.
 pub const NEVER: u64 = 18446744073709551615;
@@ -42,15 +31,15 @@ pub struct DeadlineAnswer {
 pub fn deadline(chain: Chain, node: u32, index: u32) -> DeadlineAnswer
     ensures { λ r. ⌜ r ≡ deadlineAnswer chain node index ⌝ }
 {
-    let sized = sizing::checked_for_run(chain);
-    if sized.number != 0 {
-        return refused(sized.number, sized.place);
+    let mut plan = [0; PLAN];
+    let wrong = sizing::planned_for_run(chain, &mut plan);
+    if wrong.number != 0 {
+        return refused(wrong.number, wrong.place);
     }
     if (chain.n < node) | (index == 0) {
         return refused(11, node);
     }
     let flow = flow::started(chain);
-    let plan = planned(chain, sized.analysis);
     let i = node as usize;
     let ticks = due(&plan, &flow, i, index);
     if ticks == NEVER {
@@ -61,23 +50,6 @@ pub fn deadline(chain: Chain, node: u32, index: u32) -> DeadlineAnswer
         place: 0,
         due: ticks,
     }
-}
-
-// The plan of a chain, whose capacities in force its analysis has.
-pub fn planned(chain: Chain, analysis: Analysis) -> [u32; PLAN]
-    requires { ⌜ Analysed chain analysis ⌝ }
-    ensures { λ r. ⌜ Plans r chain ⌝ }
-{
-    let n = chain.n as usize;
-    let mut plan = [0; PLAN];
-    plan[PERIOD] = chain.period;
-    let mut i = 0;
-    while i < n {
-        plan[CAPACITY + i] = analysis.queues[i].capacity;
-        plan[WORK + i] = chain.work[i];
-        i += 1;
-    }
-    plan
 }
 
 // The deadline of node i's next firing, or NEVER.

@@ -183,7 +183,7 @@ module _ (c : Chain) where
   load-silent = Iff·trans (test-silent 7 0 (λ e. omega arith) _) (below-false (cycleOf c) (busyOf c))
 
 -- the capacity in force is below the minimum exactly where one is written, and that is
-short-alike : (B b : ℕ) → ltb (capacity B b) b ≡ (not (eqb B 0) && ltb B b)
+pub short-alike : (B b : ℕ) → ltb (capacity B b) b ≡ (not (eqb B 0) && ltb B b)
 unfolding capacity
 short-alike B b = by (eqb B 0)
   where

@@ -1,11 +1,13 @@
 // The analysis of a chain: the rate of each node, the load, and for each queue its minimum, naming count, capacity and
-// margin. One walk over the queues makes it all; every run and deadline question starts with `checked_for_run`.
+// margin. One walk over the queues makes it all. Calls that need no more of it than the capacities walk into a lent plan:
+// every tick, deadline run and deadline question starts with `planned_for_run`.
 ghost use mathlib.Core.Path.{_≡_};
 ghost use Rattle.chain.specs.Refusals.{first};
 ghost use Rattle.chain.specs.Sound.{Sound, SoundRow};
 ghost use Rattle.chain.specs.Faults.{Few};
 ghost use Rattle.sizing.specs.Sizes.{sizeBy, sized, refusedWith, rowBy, Parted};
 ghost use Rattle.sizing.specs.Checks.{tooLarge, sizeChecks, analyseAnswer, runAnswer, shortIn};
+ghost use Rattle.sizing.specs.Plan.{roomBy, shortAt, Draws, DrawnGives, Blank, RunPlans};
 use chain::Chain;
 use chain::Queue;
 use chain::Refusal;
@@ -38,6 +40,29 @@ pub struct AnalysisAnswer {
     pub number: u32,
     pub place: u32,
     pub analysis: Analysis,
+}
+
+// A plan is what deadlines and work are made from, in one array of words that code lends from call to call. How many words
+// it has, and where they lie: each queue's capacity in force, the execution time of the node that the queue feeds, and the
+// source's period.
+pub const PLAN: usize = 33;
+
+pub const CAPACITY: usize = 0;
+
+pub const WORK: usize = 16;
+
+pub const PERIOD: usize = 32;
+
+// What is refused of a chain's sizes: by 6 and 7, and by 8, which runs and deadlines alone ask.
+pub struct Doubts {
+    pub sizes: Refusal,
+    pub short: Refusal,
+}
+
+// A queue's capacity in force, and whether it is below the queue's minimum.
+pub struct Room {
+    capacity: u32,
+    short: bool,
 }
 
 // The slot of no queue.
@@ -87,6 +112,63 @@ pub fn checked_for_run(chain: Chain) -> AnalysisAnswer
     answer
 }
 
+// The plan of a chain that is to be run, drawn into the lent words, or the first of 2, 4, 5, 6, 7 and 8 that refuses it.
+pub fn planned_for_run(chain: Chain, plan: &mut [u32; PLAN]) -> Refusal
+    requires { ⌜ Blank (now plan) ⌝ }
+    ensures { λ r. ⌜ RunPlans chain (now (plan .exit)) r ⌝ }
+{
+    let wrong = chain::check_chain(chain);
+    if wrong.number != 0 {
+        return wrong;
+    }
+    let doubts = drawn(chain, plan);
+    let sizes = doubts.sizes;
+    if sizes.number != 0 {
+        return sizes;
+    }
+    doubts.short
+}
+
+// The plan of a chain that 2, 4 and 5 have passed, drawn into the lent words, and what 6, 7 and 8 say of the chain.
+pub fn drawn(chain: Chain, plan: &mut [u32; PLAN]) -> Doubts
+    requires { ⌜ Draws chain (now plan) ⌝ }
+    ensures { λ r. ⌜ DrawnGives chain (now (plan .exit)) r ⌝ }
+{
+    let n = chain.n as usize;
+    plan[PERIOD] = chain.period;
+    let mut short = chain::FINE;
+    let mut x: u32 = 1;
+    let mut y = chain.period;
+    let mut busy = 0;
+    let mut i = 0;
+    while i < n {
+        let q = chain.queues[i];
+        let row = parted(q);
+        let rate = rates::rate_after(row, x, y);
+        if is_too_large(rate) {
+            return Doubts {
+                sizes: Refusal {
+                    number: 6,
+                    place: (i + 1) as u32,
+                },
+                short: chain::FINE,
+            };
+        }
+        x = rate.x as u32;
+        y = rate.y as u32;
+        busy = rates::busy_after(busy, rate.stretch, chain.work[i], x, y);
+        let room = room_of(q, row);
+        short = shorter(short, i as u32, room.short);
+        plan[CAPACITY + i] = room.capacity;
+        plan[WORK + i] = chain.work[i];
+        i += 1;
+    }
+    Doubts {
+        sizes: chain::test(7, 0, (y as u64) < busy),
+        short: short,
+    }
+}
+
 // The analysis of a chain that 2, 4 and 5 have passed, or the first of 6 and 7 that refuses it.
 pub fn sized(chain: Chain) -> AnalysisAnswer
     requires { ⌜ Sound chain ⌝ }
@@ -132,6 +214,29 @@ fn refused(number: u32, place: u32) -> AnalysisAnswer
         number: number,
         place: place,
         analysis: NOTHING,
+    }
+}
+
+// 8 of the queues looked at so far and queue i: the first of them that is short.
+fn shorter(short: Refusal, i: u32, below: bool) -> Refusal
+    ensures { λ r. ⌜ r ≡ shortAt short i below ⌝ }
+{
+    if short.number != 0 {
+        return short;
+    }
+    chain::test(8, i, below)
+}
+
+// A queue's capacity in force, from its numbers, and whether it is below its minimum.
+fn room_of(q: Queue, row: Row) -> Room
+    requires { ⌜ Parted q row ⌝ }
+    ensures { λ r. ⌜ r ≡ roomBy q ⌝ }
+{
+    let minimum = onequeue::minimum(row);
+    let capacity = onequeue::capacity(q.capacity, minimum);
+    Room {
+        capacity: capacity,
+        short: capacity < minimum,
     }
 }
 

@@ -1,19 +1,22 @@
 -- The answer of manual firing, as its code puts it together.
 use mathlib.Core.Path.{_≡_, refl, sym, ap, _∙_}
 use mathlib.Core.Logic.{by-cases}
+use mathlib.Core.List.{List}
 use Prim.Native.Nat.{ℕ}
 use native.Mathlib.Decide.{ℕ-discrete}
-use Rattle.chain.specs.Refusals.{refused, first, Silent, silent-as, first-fine, or-left, or-right}
+use Rattle.chain.specs.Refusals.{first, Silent, silent-as, first-fine, or-left, or-right}
 use Rattle.chain.specs.Checks.{chainRefusal}
 use Rattle.chain.specs.declared.Refusal.{Refusal}
 use Rattle.chain.specs.declared.Chain.{Chain}
+use Rattle.chain.specs.Sound.{sound}
 use Rattle.sizing.specs.Sizes.{sized}
-use Rattle.sizing.specs.Checks.{sizeChecks, analyseRefusal, analyseAnswer, analyse-parts}
-use Rattle.sizing.specs.Accepted.{analysed}
+use Rattle.sizing.specs.Checks.{analyseRefusal, analyseAnswer, analyse-parts}
+use Rattle.sizing.specs.Plan.{DrawnGives}
 use Rattle.sizing.specs.declared.AnalysisAnswer.{AnalysisAnswer}
+use Rattle.sizing.specs.declared.Doubts.{Doubts}
 use Rattle.state.specs.State.{emptyRun, fresh-empty, answered, answered-refused, answered-fine, refusedWith}
 use Rattle.state.specs.Fired.{fired}
-use Rattle.state.specs.Checks.{stateCheck, Analysed}
+use Rattle.state.specs.Checks.{stateCheck, Planned}
 use Rattle.state.specs.Fire.{freshAnswer, fresh-state, fresh-refused, nodeChecks, fireChecks, fireRefusal, fireAnswer, Firing, fire-parts, firing-is}
 use Rattle.state.specs.declared.Run.{Run}
 
@@ -34,21 +37,17 @@ module _ (c : Chain) (s : Run) (i : ℕ) where
     pub chain-refuses : (Silent w → ⊥) → refusedWith (w .number) (w .place) s ≡ fireAnswer c s i
     chain-refuses n = back (or-left _ (or-left _ d n ∙ sym (analyse-parts c)) n ∙ sym (fire-parts c s i)) n
 
-    module _ (y : Silent w) {a : AnalysisAnswer} (e : a ≡ sized (first (sizeChecks c)) c) where
+    module _ (y : Silent w) {l : List ℕ} {a : Doubts} (e : DrawnGives c l a) where
       -- what the analysis is refused with
-      says : refused (a .number) (a .place) ≡ analyseRefusal c
-      unfolding sized
-      says = or-right d y (ap (λ (b : AnalysisAnswer). refused (b .number) (b .place)) e) ∙ sym (analyse-parts c)
+      says : a .sizes ≡ analyseRefusal c
+      says = or-right d y (e .sizes) ∙ sym (analyse-parts c)
 
-      pub analysis-refuses : (a .number ≡ 0 → ⊥) → refusedWith (a .number) (a .place) s ≡ fireAnswer c s i
-      analysis-refuses n = back (or-left _ says n ∙ sym (fire-parts c s i)) n
+      pub sizes-refuse : (Silent (a .sizes) → ⊥) → refusedWith (a .sizes .number) (a .sizes .place) s ≡ fireAnswer c s i
+      sizes-refuse n = back (or-left _ says n ∙ sym (fire-parts c s i)) n
 
-      module _ (z : a .number ≡ 0) where
-        pub analysed-is : Analysed c (a .analysis)
-        unfolding analyseAnswer
-        analysed-is =
-            let whole = analysed c (e ∙ ap (λ (r : Refusal). sized r c) (or-right d y refl ∙ sym (analyse-parts c))) z in
-            record { chain = whole .0 .chain; sizes = ap (λ (b : AnalysisAnswer). b .analysis) (whole .1) }
+      module _ (z : Silent (a .sizes)) where
+        pub planned-is : Planned c l
+        planned-is = record { chain = sound c .0 (silent-as d y); plans = e .plans z }
 
         module _ {r : Refusal} (f : r ≡ stateCheck c s) where
           pub state-refuses : (Silent r → ⊥) → refusedWith (r .number) (r .place) s ≡ fireAnswer c s i

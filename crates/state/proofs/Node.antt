@@ -2,6 +2,7 @@
 use mathlib.Core.Path.{_≡_, refl, sym, ap, _∙_}
 use mathlib.Core.Bool.{Bool, true, false, not, _&&_}
 use mathlib.Core.Logic.{_≢_}
+use mathlib.Core.List.{List}
 use Prim.Native.Nat.{ℕ, zero, suc, _+_, _-_, _≤_, _<_}
 use native.Mathlib.Nat.{zero-lt-suc}
 use native.Mathlib.Omega.{arith}
@@ -13,10 +14,9 @@ use Rattle.chain.specs.Record.{rowOf}
 use Rattle.chain.specs.declared.Chain.{Chain}
 use Rattle.chain.specs.declared.Refusal.{Refusal}
 use Rattle.sizing.specs.Checks.{limit}
-use Rattle.sizing.specs.Sizes.{capacityOf, noSize}
-use Rattle.sizing.specs.declared.Analysis.{Analysis}
+use Rattle.sizing.specs.Sizes.{capacityOf}
 use Rattle.state.specs.State.{countAt, heldAt}
-use Rattle.state.specs.Checks.{over, spent, idle, cramped, countCheck, roomCheck, count-silent, count-exact, Analysed, ruled}
+use Rattle.state.specs.Checks.{over, spent, idle, cramped, countCheck, roomCheck, count-silent, count-exact, Planned, ruled}
 use Rattle.state.specs.Fire.{nodeChecks}
 use Rattle.state.specs.declared.Run.{Run}
 
@@ -62,12 +62,12 @@ module _ (c : Chain) (s : Run) (i : ℕ) where
       unfolding cramped
       inside h = sym (simp (lt-ltb i (c .n) h))
 
-      -- the sink has no output queue; of another node's the analysis has the capacity in force
+      -- the sink has no output queue; of another node's the plan has the capacity in force
       pub sink-fires : w ≡ false → c .n ≤ i → fine ≡ first (nodeChecks c s i)
       unfolding cramped
       sink-fires t h = room-decides (sym (simp (le-ltb i (c .n) h))) t
 
-      pub room-tested : {a : Analysis} {b : Bool} {r : Refusal} → Analysed c a → i < c .n → r ≡ test 12 i b → b ≡ ltb (getD (a .queues) i noSize .capacity) (heldAt s i + rowOf c i .produce) → w ≡ false → r ≡ first (nodeChecks c s i)
+      pub room-tested : {p : List ℕ} {b : Bool} {r : Refusal} → Planned c p → i < c .n → r ≡ test 12 i b → b ≡ ltb (getD p (0 + i) 0) (heldAt s i + rowOf c i .produce) → w ≡ false → r ≡ first (nodeChecks c s i)
       room-tested {b = b} k h f g t =
           let same : b ≡ cramped c s i = g ∙ ap (λ (m : ℕ). ltb m (heldAt s i + rowOf c i .produce)) (ruled k i h .capacity) ∙ inside h in
           room-decides (f ∙ ap (test 12 i) same) t

@@ -20,12 +20,15 @@
 --   steady-silent, broken-says 17 of one queue: silent where it has no reason, and speaking where it has one
 --   state-, count-, over-, room-only
 --                              and speaks with its own number
---   Analysed c a, analysed-run, Ruled q k, ruled
---                              what the code is handed: a sound chain and its analysis, a sound queue and its capacity, which the analysis has
-use mathlib.Core.Path.{_≡_, refl, ap, _∙_}
+--   Planned c l, planned-run, Ruled q k, ruled
+--                              what the code is handed: a sound chain and its plan, a sound queue and its capacity, which the plan has
+--   lentRun, state-lent        the state whose numbers are lent, which 17 is said of
+use mathlib.Core.Path.{_≡_, refl}
 use mathlib.Core.Bool.{Bool, true, false, not, _||_, _&&_}
 use mathlib.Core.Logic.{_↔_, _≢_, _⊎_, inl, inr, ⊎-elim, by-cases, Iff·trans, Iff·and, Iff·rfl}
+use mathlib.Core.List.{List}
 use Prim.Native.Nat.{ℕ, zero, suc, _+_, _*_, _≤_, _<_}
+use native.Mathlib.Nat.{zero-add}
 use native.Mathlib.Omega.{arith}
 use native.Mathlib.Decide.{decLt}
 use lib.Dec.{ltb, leb, eqb}
@@ -34,19 +37,17 @@ use borrow.Author.Tests.{eqb-false, ne-eqb}
 use Rattle.words.specs.Table.{tab}
 use Rattle.words.specs.declared.Queue.{Queue}
 use Rattle.chain.specs.Tests.{below-true, below-false, upto-true, upto-false, equal-true, differ-true, differ-false, or-true, or-false, and-true, and-false, negated-true, negated-false}
-use Rattle.chain.specs.Refusals.{refused, test, first, Silent, Lowest, lowest-is, Only, only-test, only-tab, test-exact, test-silent, all-silent}
+use Rattle.chain.specs.Refusals.{refused, test, first, Silent, silent-as, Lowest, lowest-is, Only, only-test, only-tab, test-exact, test-silent, all-silent}
 use Rattle.chain.specs.Record.{rowOf, workOf}
 use Rattle.chain.specs.declared.Refusal.{Refusal}
 use Rattle.chain.specs.declared.Chain.{Chain}
 use Rattle.onequeue.specs.Capacity.{capacity}
 use Rattle.onequeue.specs.Minimum.{minimum}
 use Rattle.chain.specs.Sound.{Sound, SoundRow}
-use Rattle.sizing.specs.Sizes.{start, capacityOf, noSize, sizeBy, analysisOf, size-at}
-use Rattle.sizing.specs.declared.QueueSize.{QueueSize}
-use Rattle.sizing.specs.Accepted.{run-accepts, run-quiet, run-analysis}
-use Rattle.sizing.specs.declared.Analysis.{Analysis}
-use Rattle.sizing.specs.declared.AnalysisAnswer.{AnalysisAnswer}
-use Rattle.sizing.specs.Checks.{limit, runAnswer}
+use Rattle.sizing.specs.Sizes.{start, capacityOf}
+use Rattle.sizing.specs.Checks.{limit}
+use Rattle.sizing.specs.Accepted.{run-accepts}
+use Rattle.sizing.specs.Plan.{Plans, RunPlans}
 use Rattle.state.specs.State.{countAt, heldAt, doneAt}
 use Rattle.state.specs.Fired.{Balance, Over, Room}
 use Rattle.state.specs.declared.Run.{Run}
@@ -184,24 +185,29 @@ module _ (c : Chain) (s : Run) where
   pub room-only : (i : ℕ) → Only 12 (roomCheck c s i)
   room-only i = only-test 12 i (cramped c s i)
 
--- what the code of these checks is handed: a sound chain and its analysis
-pub record Analysed (c : Chain) (a : Analysis) : Type 0 where
+-- what the code of these checks is handed: a sound chain and its plan
+pub record Planned (c : Chain) (l : List ℕ) : Type 0 where
   pub chain : Sound c
-  pub sizes : a ≡ analysisOf c
+  pub plans : Plans l c
+
+-- the counts, the contents and the work done of a state that is lent
+abbrev pub lentRun : List ℕ → List ℕ → List ℕ → Run
+lentRun counts held done = record { clock = 0; counts = counts; held = held; done = done }
+
+-- 17 does not look at the clock
+pub state-lent : (c : Chain) (s : Run) → stateCheck c (lentRun (s .counts) (s .held) (s .done)) ≡ stateCheck c s
+unfolding stateCheck
+state-lent c s = refl
 
 -- a sound queue and its capacity in force
 pub record Ruled (q : Queue) (k : ℕ) : Type 0 where
   pub sound : SoundRow q
   pub capacity : k ≡ capacityOf q
 
--- the capacity that the analysis has of queue i is the one in force
-pub ruled : {c : Chain} {a : Analysis} → Analysed c a → (i : ℕ) → i < c .n → Ruled (rowOf c i) (getD (a .queues) i noSize .capacity)
-unfolding sizeBy
-ruled {c} k i l = record {
-  sound = k .chain .rows i l;
-  capacity = ap (λ (b : Analysis). getD (b .queues) i noSize .capacity) (k .sizes) ∙ ap (λ (z : QueueSize). z .capacity) (size-at c i (k .chain .count .1) l);
-}
+-- the capacity that the plan has of queue i is the one in force
+pub ruled : {c : Chain} {l : List ℕ} → Planned c l → (i : ℕ) → i < c .n → Ruled (rowOf c i) (getD l (0 + i) 0)
+ruled k i h = record { sound = k .chain .rows i h; capacity = rw zero-add (k .plans .capacities i h) }
 
--- a chain that may run, and its analysis, as code was answered
-pub analysed-run : {a : AnalysisAnswer} (c : Chain) → a ≡ runAnswer c → a .number ≡ 0 → Analysed c (a .analysis)
-analysed-run c e z = record { chain = run-accepts c .0 (run-quiet c e z) .0 .chain; sizes = run-analysis c e z }
+-- a chain that may run, and its plan, as code was answered
+pub planned-run : {c : Chain} {l : List ℕ} {r : Refusal} → RunPlans c l r → Silent r → Planned c l
+planned-run {c} p z = record { chain = run-accepts c .0 (silent-as (p .says) z) .0 .chain; plans = p .plans z }

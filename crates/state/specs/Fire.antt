@@ -1,6 +1,7 @@
 -- Manual firing (01, Firing), and what a call that gives a state answers.
 --   freshAnswer c              the answer of a fresh start: 2, 4, 5, 6, 7, then the empty state (fresh-refusal, fresh-state, fresh-refused)
 --   nodeChecks c s i           9, 11 and 12: the checks of a firing of N_i in a state that 17 has passed
+--   node-lent                  which look at counts and contents alone
 --   fireChecks c s i           the checks of manual firing, in order, never 8
 --   fireRefusal c s i, fireAnswer c s i
 --                              what a firing is refused with, and the whole answer: the state as it was, or after the firing
@@ -15,7 +16,7 @@
 use mathlib.Core.Path.{_≡_, refl, sym, _∙_}
 use mathlib.Core.Logic.{_↔_, _≢_, _⊎_, inl, ⊎-elim, Iff·trans, Iff·and, Iff·rfl}
 use mathlib.Core.List.{List, [], _∷_, _++_}
-use Prim.Native.Nat.{ℕ, _+_, _*_, _≤_, _<_}
+use Prim.Native.Nat.{ℕ, zero, suc, _+_, _*_, _≤_, _<_}
 use native.Mathlib.Omega.{arith}
 use lib.Dec.{eqb}
 use lib.ListN.{getD, take}
@@ -32,7 +33,7 @@ use Rattle.sizing.specs.Accepted.{Accepted, analyse-accepts}
 use Rattle.state.specs.State.{countAt, heldAt, emptyRun, freshRun, answered}
 use Rattle.state.specs.Fired.{fired, Over, May}
 use Rattle.state.specs.Checks as own
-use Rattle.state.specs.Checks.{stateCheck, countCheck, overCheck, cramped, roomCheck, FirstBroken, StateSound, state-exact, over-exact, room-exact, state-silent, over-silent, room-silent, state-only, over-only, room-only}
+use Rattle.state.specs.Checks.{stateCheck, lentRun, countCheck, overCheck, cramped, roomCheck, FirstBroken, StateSound, state-exact, over-exact, room-exact, state-silent, over-silent, room-silent, state-only, over-only, room-only}
 use Rattle.state.specs.declared.Run.{Run}
 use Rattle.state.specs.declared.RunAnswer.{RunAnswer}
 
@@ -44,6 +45,12 @@ freshAnswer c = answered (analyseRefusal c) emptyRun (freshRun c)
 -- "answers 11, then 12; 9 .. tested before 11 and 12"
 abbrev pub nodeChecks : Chain → Run → ℕ → List Refusal
 nodeChecks c s i = countCheck c s i ∷ overCheck c s i ∷ roomCheck c s i ∷ []
+
+-- they look at counts and contents alone
+pub node-lent : (c : Chain) (s : Run) (i : ℕ) → first (nodeChecks c (lentRun (s .counts) (s .held) []) i) ≡ first (nodeChecks c s i)
+unfolding first cramped
+node-lent c s zero = refl
+node-lent c s (suc i) = refl
 
 -- "manual firing, runs and deadline questions check the analysis first, then their own numbers; every call that is handed a run state checks 17", which is
 -- "tested after 8 and before 9"; 8 is of "runs and deadlines only"

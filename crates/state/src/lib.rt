@@ -1,16 +1,18 @@
 // The run state: a fresh start, what one firing does to it, and manual firing.
 ghost use mathlib.Core.Path.{_≡_};
+ghost use mathlib.Core.List.{[]};
 ghost use lib.Dec.{ltb};
 ghost use Prim.Native.Nat.{_+_, _-_};
 ghost use Rattle.chain.specs.Refusals.{first, refused};
 ghost use Rattle.state.specs.State.{refusedWith};
 ghost use Rattle.state.specs.Fired.{fired};
-ghost use Rattle.state.specs.Checks.{broken, stateCheck, Analysed, Ruled};
+ghost use Rattle.state.specs.Checks.{broken, stateCheck, lentRun, Planned, Ruled};
 ghost use Rattle.state.specs.Fire.{freshAnswer, nodeChecks, fireAnswer, Firing};
 use chain::Chain;
 use chain::Queue;
 use chain::Refusal;
-use sizing::Analysis;
+use sizing::CAPACITY;
+use sizing::PLAN;
 
 // The state of a run: the clock, how often each node has fired (the source first), what each queue holds, and for each
 // queue the ticks of work done by the node that it feeds.
@@ -80,15 +82,17 @@ impl Run {
         if wrong.number != 0 {
             return given_back(wrong.number, wrong.place, self);
         }
-        let sized = sizing::sized(chain);
-        if sized.number != 0 {
-            return given_back(sized.number, sized.place, self);
+        let mut plan = [0; PLAN];
+        let doubts = sizing::drawn(chain, &mut plan);
+        let sizes = doubts.sizes;
+        if sizes.number != 0 {
+            return given_back(sizes.number, sizes.place, self);
         }
-        let damage = state_check(chain, sized.analysis, self);
+        let damage = state_check(chain, &plan, &self.counts, &self.held, &self.done);
         if damage.number != 0 {
             return given_back(damage.number, damage.place, self);
         }
-        let own = node_check(chain, sized.analysis, self, node);
+        let own = node_check(chain, &plan, &self.counts, &self.held, node);
         if own.number != 0 {
             return given_back(own.number, own.place, self);
         }
@@ -111,22 +115,29 @@ pub fn given_back(number: u32, place: u32, run: Run) -> RunAnswer
     }
 }
 
-// 17: the lowest queue of which the state breaks the balance, passes the capacity, or has all the work of a firing done.
-pub fn state_check(chain: Chain, analysis: Analysis, run: Run) -> Refusal
-    requires { ⌜ Analysed chain analysis ⌝ }
-    ensures { λ r. ⌜ r ≡ stateCheck chain run ⌝ }
+// 17: the lowest queue of which the state that is lent breaks the balance, passes the capacity, or has all the work of a
+// firing done.
+pub fn state_check<'a>(
+    chain: Chain,
+    plan: &[u32; PLAN],
+    counts: &'a [u32; 17],
+    held: &'a [u32; 16],
+    done: &'a [u32; 16],
+) -> Refusal
+    requires { ⌜ Planned chain (now plan) ⌝ }
+    ensures { λ r. ⌜ r ≡ stateCheck chain (lentRun (now (counts .entry)) (now (held .entry)) (now (done .entry))) ⌝ }
 {
     let n = chain.n as usize;
     let mut i = 0;
     while i < n {
         if is_broken(
             chain.queues[i],
-            analysis.queues[i].capacity,
+            plan[CAPACITY + i],
             chain.work[i],
-            run.counts[i],
-            run.counts[i + 1],
-            run.held[i],
-            run.done[i],
+            counts[i],
+            counts[i + 1],
+            held[i],
+            done[i],
         ) {
             return refusal(17, i as u32);
         }
@@ -147,19 +158,25 @@ fn is_broken(q: Queue, capacity: u32, e: u32, made: u32, used: u32, held: u32, d
 }
 
 // 9, 11 and 12 of a firing.
-fn node_check(chain: Chain, analysis: Analysis, run: Run, node: u32) -> Refusal
-    requires { ⌜ Analysed chain analysis ⌝ }
-    ensures { λ r. ⌜ r ≡ first (nodeChecks chain run node) ⌝ }
+fn node_check<'a>(
+    chain: Chain,
+    plan: &[u32; PLAN],
+    counts: &'a [u32; 17],
+    held: &'a [u32; 16],
+    node: u32,
+) -> Refusal
+    requires { ⌜ Planned chain (now plan) ⌝ }
+    ensures { λ r. ⌜ r ≡ first (nodeChecks chain (lentRun (now (counts .entry)) (now (held .entry)) []) node) ⌝ }
 {
     if chain.n < node {
         return refusal(11, node);
     }
     let i = node as usize;
-    if run.counts[i] == LIMIT {
+    if counts[i] == LIMIT {
         return refusal(9, node);
     }
     let j = input_of(i);
-    if (0 < i) & (run.held[j] < chain.queues[j].threshold) {
+    if (0 < i) & (held[j] < chain.queues[j].threshold) {
         return refusal(11, node);
     }
     if chain.n <= node {
@@ -168,11 +185,7 @@ fn node_check(chain: Chain, analysis: Analysis, run: Run, node: u32) -> Refusal
     chain::test(
         12,
         node,
-        passes(
-            analysis.queues[i].capacity,
-            run.held[i],
-            chain.queues[i].produce,
-        ),
+        passes(plan[CAPACITY + i], held[i], chain.queues[i].produce),
     )
 }
 

@@ -24,7 +24,7 @@ use Rattle.state.specs.Checks.{cramped}
 use Rattle.state.specs.Fire.{Firing}
 use Rattle.state.specs.declared.Run.{Run}
 use Rattle.flow.specs.Flow.{produceIn, heldIn, sizeIn, Shows, Ready, firing, shows-fired}
-use Rattle.deadline.specs.Plan.{capacityIn, workIn, periodIn}
+use Rattle.sizing.specs.Plan.{capacityIn, workIn, periodIn}
 use Rattle.deadline.specs.Dues.{Shown}
 use Rattle.instants.specs.Steps.{clean, overflowed, sourced, worked, withDone, finish, finished}
 use Rattle.instants.specs.Kept.{Running, source-may, worked-counts, worked-held, worked-clock, works-ends, cleared-running, finish-may}

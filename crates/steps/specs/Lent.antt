@@ -30,7 +30,7 @@ use Rattle.state.specs.State.{countAt, doneAt}
 use Rattle.state.specs.Fired.{Over}
 use Rattle.state.specs.declared.Run.{Run}
 use Rattle.flow.specs.Flow.{produceIn, heldIn, sizeIn, Shows}
-use Rattle.deadline.specs.Plan.{capacityIn, workIn}
+use Rattle.sizing.specs.Plan.{capacityIn, workIn}
 use Rattle.deadline.specs.Question.{datedOf}
 use Rattle.deadline.specs.Dues.{Shown}
 use Rattle.instants.specs.Steps.{sourced, next, lacking, chosen, worked, finished, begun}

@@ -26,7 +26,7 @@ use Rattle.state.specs.Checks.{over}
 use Rattle.state.specs.declared.Run.{Run}
 use Rattle.flow.specs.Flow.{Shows}
 use Rattle.deadlines.specs.Deadline.{deadline}
-use Rattle.deadline.specs.Plan.{workIn}
+use Rattle.sizing.specs.Plan.{workIn}
 use Rattle.deadline.specs.Dues.{Shown}
 use Rattle.instants.specs.Steps.{clean, goes, onward, withDone, sourced, lacking, choose, chosen, worked, ended, finish, finished, begun, tick}
 use Rattle.instants.specs.Kept.{finish-cases, begun-stays, Running, SourceStep, sourced-clean, begun-clean, chosen-low, chosen-over, worked-counts, worked-held, worked-clock, worked-same, works-on, works-ends, unclean-overflow, unclean-undated, tick-begun, fired-clock}

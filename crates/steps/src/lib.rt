@@ -4,17 +4,17 @@ ghost use mathlib.Core.Path.{_≡_};
 ghost use Prim.Native.Nat.{_≤_};
 ghost use Rattle.steps.specs.Lent.{fullIn, Rooms, Sources, SourcedGives, Looks, LackingGives, ChosenGives, workedIn, Works, endedAt, Ends, FinishedGives, BegunGives};
 ghost use Rattle.steps.specs.Passed.{Stand, DuesGive, Passes, PassGives};
-use deadline::CAPACITY;
 use deadline::NEVER;
-use deadline::PERIOD;
-use deadline::PLAN;
-use deadline::WORK;
 use flow::COUNTS;
 use flow::HELD;
 use flow::LENGTH;
 use flow::PRODUCE;
 use flow::SIZE;
 use flow::THRESHOLD;
+use sizing::CAPACITY;
+use sizing::PERIOD;
+use sizing::PLAN;
+use sizing::WORK;
 
 // How a step ends, as a number: clean, a production that does not fit, a deadline that cannot be had.
 pub const CLEAN: u32 = 0;

@@ -15,7 +15,6 @@ use lib.ListN.{length, replicate}
 use Rattle.chain.specs.Record.{rowOf}
 use Rattle.chain.specs.declared.Chain.{Chain}
 use Rattle.sizing.specs.Checks.{limit}
-use Rattle.sizing.specs.declared.Analysis.{Analysis}
 use Rattle.state.specs.State.{countAt, heldAt, freshRun, fresh-count}
 use Rattle.state.specs.Fired.{fired, held-other}
 use Rattle.state.specs.Checks.{cramped}
@@ -23,7 +22,6 @@ use Rattle.state.specs.declared.Run.{Run}
 use Rattle.past.specs.Runs.{Whole}
 use Rattle.flow.specs.Flow.{Shows}
 use Rattle.flow.specs.Poured.{Showing}
-use Rattle.deadline.specs.Plan.{Plans}
 use Rattle.instants.specs.Steps.{clean, overflowed, divides, sourced, tick, ticks}
 use Rattle.instants.specs.Refusals.{ranAs}
 use Rattle.instants.specs.Fresh.{fresh-running}
@@ -45,13 +43,13 @@ sourced-held c s j l = by (divides (c .period) (s .clock)) (cramped c s 0)
     by true false = held-other c s 0 j (λ e. omega arith) (λ e. omega arith)
     by false x = refl
 
-module _ {c : Chain} {a : Analysis} {s : Run} (k : TickAsk c a s) {p f : List ℕ} (x : Plans p c) (y : Showing f c s) where
+module _ {c : Chain} {p : List ℕ} {s : Run} (k : TickAsk c p s) {f : List ℕ} (y : Showing f c s) where
   whole : Whole s
   whole = record { counts = y .typed .counts; held = y .typed .held; done = y .typed .done }
 
   stands : Stands p f c s
   stands = record {
-    shown = record { plans = x; shows = y .shows };
+    shown = record { plans = k .plan .plans; shows = y .shows };
     running = record { chain = k .ticking .chain; whole = whole; state = k .ticking .state };
     counts = λ i l. let n : countAt s i ≢ limit = k .ticking .countable i l in omega (arith, y .typed .words i);
   }
@@ -87,9 +85,9 @@ module _ {c : Chain} {a : Analysis} {s : Run} (k : TickAsk c a s) {p f : List �
       pub tick-left : leftBy u v (r .kind) (r .tick) (r .node) ≡ ranAs (tick c s)
       tick-left = let t : PassTo c s u v r = q .gives asks in left-is (r .kind) (r .tick) (r .node) (t .shows) (t .outcome) (t .clock) (t .done)
 
-module _ {c : Chain} {a : Analysis} {T : ℕ} (k : RunAsk c a T) {p f : List ℕ} (x : Plans p c) (y : Shows f c (freshRun c)) where
+module _ {c : Chain} {p : List ℕ} {T : ℕ} (k : RunAsk c p T) {f : List ℕ} (y : Shows f c (freshRun c)) where
   fresh-stands : Stands p f c (freshRun c)
-  fresh-stands = record { shown = record { plans = x; shows = y }; running = fresh-running (k .accepted); counts = λ i l. omega (arith, fresh-count c i) }
+  fresh-stands = record { shown = record { plans = k .plan .plans; shows = y }; running = fresh-running (k .accepted); counts = λ i l. omega (arith, fresh-count c i) }
 
   pub run-stands : Stand p f
   run-stands = record { chain = c; run = freshRun c; stands = fresh-stands }
@@ -99,7 +97,7 @@ module _ {c : Chain} {a : Analysis} {T : ℕ} (k : RunAsk c a T) {p f : List ℕ
     unfolding freshRun
     lends = record {
       accepted = k .accepted;
-      shown = record { plans = x; shows = y };
+      shown = record { plans = k .plan .plans; shows = y };
       keeps = λ j l. g .gives fresh-stands j (omega (arith, y .few)) l (inl (inl refl));
       wide = wide;
       done = refl;

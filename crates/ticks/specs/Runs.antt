@@ -1,7 +1,7 @@
 -- What the code of a tick and of a deadline run asks and gives.
 --   Few c                    the chain has at most 16 queues
---   TickAsk c a s            no check refuses the tick, and a is the chain's analysis
---   RunAsk c a T             no check refuses the run
+--   TickAsk c l s            no check refuses the tick, and l is the chain's plan
+--   RunAsk c l T             no check refuses the run
 --   KeepsAll d c s           the deadline of every node's next firing is kept
 --   LendsIn, Lends           a fresh start is lent, and its deadlines
 --   RanTo, RanGives          what the ticks of a run make of it
@@ -11,9 +11,8 @@ use Prim.Native.Nat.{ℕ, suc, _≤_, _<_}
 use lib.ListN.{length, getD}
 use Rattle.chain.specs.declared.Chain.{Chain}
 use Rattle.sizing.specs.Accepted.{Accepted}
-use Rattle.sizing.specs.declared.Analysis.{Analysis}
 use Rattle.state.specs.State.{freshRun}
-use Rattle.state.specs.Checks.{Analysed}
+use Rattle.state.specs.Checks.{Planned}
 use Rattle.state.specs.declared.Run.{Run}
 use Rattle.flow.specs.Flow.{Shows}
 use Rattle.deadline.specs.Question.{datedOf}
@@ -29,13 +28,13 @@ pub record Few (c : Chain) : Type 0 where
   pub few : c .n ≤ 16
 
 -- no check refuses the tick
-pub record TickAsk (c : Chain) (a : Analysis) (s : Run) : Type 0 where
-  pub sizes : Analysed c a
+pub record TickAsk (c : Chain) (l : List ℕ) (s : Run) : Type 0 where
+  pub plan : Planned c l
   pub ticking : Ticking c s
 
 -- no check refuses the run
-pub record RunAsk (c : Chain) (a : Analysis) (T : ℕ) : Type 0 where
-  pub sizes : Analysed c a
+pub record RunAsk (c : Chain) (l : List ℕ) (T : ℕ) : Type 0 where
+  pub plan : Planned c l
   pub accepted : Accepted c
   pub long : T ≤ longest
 

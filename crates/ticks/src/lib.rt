@@ -7,18 +7,16 @@ ghost use Rattle.chain.specs.Refusals.{orElse};
 ghost use Rattle.instants.specs.Checks.{clockCheck, spentCheck, tickAnswer, deadlineRunAnswer};
 ghost use Rattle.instants.specs.Steps.{tick, ticks};
 ghost use Rattle.instants.specs.Refusals.{ranAs};
-ghost use Rattle.state.specs.Checks.{Analysed};
 ghost use Rattle.state.specs.State.{freshRun};
 ghost use Rattle.steps.specs.Lent.{outcomeAs};
 ghost use Rattle.ticks.specs.Left.{refusedWith, leftBy};
 ghost use Rattle.ticks.specs.Runs.{Few, TickAsk, RunAsk, Lends, RanGives};
 use chain::Chain;
 use chain::Refusal;
-use deadline::PLAN;
 use flow::LENGTH;
 use instants::Outcome;
 use instants::TickAnswer;
-use sizing::Analysis;
+use sizing::PLAN;
 use state::Run;
 use steps::CLEAN;
 use steps::OVERFLOWED;
@@ -42,11 +40,12 @@ pub struct Ended {
 pub fn tick(chain: Chain, run: Run) -> TickAnswer
     ensures { λ r. ⌜ r ≡ tickAnswer chain run ⌝ }
 {
-    let sized = sizing::checked_for_run(chain);
-    if sized.number != 0 {
-        return refused(sized.number, sized.place, run);
+    let mut plan = [0; PLAN];
+    let wrong = sizing::planned_for_run(chain, &mut plan);
+    if wrong.number != 0 {
+        return refused(wrong.number, wrong.place, run);
     }
-    let damage = state::state_check(chain, sized.analysis, run);
+    let damage = state::state_check(chain, &plan, &run.counts, &run.held, &run.done);
     if damage.number != 0 {
         return refused(damage.number, damage.place, run);
     }
@@ -54,7 +53,7 @@ pub fn tick(chain: Chain, run: Run) -> TickAnswer
     if late.number != 0 {
         return refused(late.number, late.place, run);
     }
-    ticked(chain, sized.analysis, run)
+    ticked(chain, &plan, run)
 }
 
 // A deadline run of so many ticks from a fresh start: how it ended and the state that it left, or the first of 2, 4, 5, 6,
@@ -62,14 +61,15 @@ pub fn tick(chain: Chain, run: Run) -> TickAnswer
 pub fn deadline_run(chain: Chain, ticks: u32) -> TickAnswer
     ensures { λ r. ⌜ r ≡ deadlineRunAnswer chain ticks ⌝ }
 {
-    let sized = sizing::checked_for_run(chain);
-    if sized.number != 0 {
-        return refused(sized.number, sized.place, state::EMPTY);
+    let mut plan = [0; PLAN];
+    let wrong = sizing::planned_for_run(chain, &mut plan);
+    if wrong.number != 0 {
+        return refused(wrong.number, wrong.place, state::EMPTY);
     }
     if LONGEST < ticks {
         return refused(9, 0, state::EMPTY);
     }
-    ran(chain, sized.analysis, ticks)
+    ran(chain, plan, ticks)
 }
 
 // The answer of a refused call: the refusal, with the state that the call gives then.
@@ -110,24 +110,22 @@ fn late_check(chain: Chain, run: Run) -> Refusal
 }
 
 // One tick of a state that no check refuses.
-fn ticked(chain: Chain, analysis: Analysis, run: Run) -> TickAnswer
-    requires { ⌜ TickAsk chain analysis run ⌝ }
+fn ticked(chain: Chain, plan: &[u32; PLAN], run: Run) -> TickAnswer
+    requires { ⌜ TickAsk chain (now plan) run ⌝ }
     ensures { λ r. ⌜ r ≡ ranAs (tick chain run) ⌝ }
 {
-    let plan = deadline::planned(chain, analysis);
     let mut flow = flow::showing(chain, run);
-    let due = steps::dues(&plan, &flow, false);
+    let due = steps::dues(plan, &flow, false);
     let mut done = run.done;
-    let passed = steps::pass(&plan, &mut flow, &due, &mut done, run.clock, STALE);
+    let passed = steps::pass(plan, &mut flow, &due, &mut done, run.clock, STALE);
     left(&flow, done, passed.kind, passed.tick, passed.node)
 }
 
 // A run that no check refuses.
-fn ran(chain: Chain, analysis: Analysis, length: u32) -> TickAnswer
-    requires { ⌜ RunAsk chain analysis length ⌝ }
+fn ran(chain: Chain, plan: [u32; PLAN], length: u32) -> TickAnswer
+    requires { ⌜ RunAsk chain plan length ⌝ }
     ensures { λ r. ⌜ r ≡ ranAs (ticks chain length (freshRun chain)) ⌝ }
 {
-    let plan = deadline::planned(chain, analysis);
     let mut flow = flow::started(chain);
     let mut due = steps::dues(&plan, &flow, true);
     let mut done = [0; 16];

@@ -1,7 +1,9 @@
--- `state::node_check` meets its contract: there is no such node, or its count is at the limit, or it waits, or the room decides.
-use Rattle.state.proofs.Node.{waits, none-such, spent-says, waiting-says, sink-fires, room-tested}
-use Rattle.state.proofs.Slots.{node, input}
 use borrow.Author.Needs.{needs}
+-- `state::node_check` meets its contract: there is no such node, or its count is at the limit, or it waits, or the room decides.
+use mathlib.Core.List.{[]}
+use Rattle.state.specs.Checks.{lentRun}
+use Rattle.state.specs.declared.Run.{Run}
+use Rattle.state.proofs.Node.{waits, none-such, spent-says, waiting-says, sink-fires, room-tested}
 use Rattle.state.proofs.node_check.Statement.{statement}
 use Rattle.state.proofs.node_check.Tie as tie
 
@@ -9,7 +11,9 @@ refusal-requires : tie.Need-refusal-requires
 refusal-requires c κs = search needs
 
 returns : tie.Need-returns
-returns c = let a = c .before .before .args in none-such (a .t1) (a .t3) (a .node) (c .refusal .ensures) (c .before .if1 .taken)
+returns c =
+    let a = c .before .before .args in
+    none-such (a .t1) (lentRun (a .counts .now) (a .held .now) []) (a .node) (c .refusal .ensures) (c .before .if1 .taken)
 
 mul-if2 : tie.Need-mul-if2
 mul-if2 c = search needs
@@ -23,7 +27,7 @@ refusal-requires-2 c κs = search needs
 returns-2 : tie.Need-returns-2
 returns-2 c =
     let a = c .before .before .before .before .args in
-    spent-says (a .t1) (a .t3) (a .node) (c .before .before .before .if1 .left) (c .refusal2 .ensures) (c .before .if2 .taken)
+    spent-says (a .t1) (lentRun (a .counts .now) (a .held .now) []) (a .node) (c .before .before .before .if1 .left) (c .refusal2 .ensures) (c .before .if2 .taken)
 
 input-of-requires : tie.Need-input-of-requires
 input-of-requires c κs = search needs
@@ -47,13 +51,18 @@ returns-3 : tie.Need-returns-3
 returns-3 c =
     let input = c .before .before .before in
     let a = input .before .before .before .before .args in
-    waiting-says (a .t1) (a .t3) (a .node) (input .before .before .before .if1 .left) (input .before .if2 .left) (waits (a .t1) (a .t3) (a .node) (input .input-of .ensures)) (c .refusal3 .ensures) (c .before .if3 .taken)
+    let s : Run = lentRun (a .counts .now) (a .held .now) [] in
+    waiting-says (a .t1) s (a .node) (input .before .before .before .if1 .left) (input .before .if2 .left) (waits (a .t1) s (a .node) (input .input-of .ensures)) (c .refusal3 .ensures) (c .before .if3 .taken)
 
 returns-4 : tie.Need-returns-4
 returns-4 c =
     let input = c .before .before .before in
     let a = input .before .before .before .before .args in
-    sink-fires (a .t1) (a .t3) (a .node) (input .before .before .before .if1 .left) (input .before .if2 .left) (waits (a .t1) (a .t3) (a .node) (input .input-of .ensures)) (c .before .if3 .left) (c .if4 .taken)
+    let s : Run = lentRun (a .counts .now) (a .held .now) [] in
+    sink-fires (a .t1) s (a .node) (input .before .before .before .if1 .left) (input .before .if2 .left) (waits (a .t1) s (a .node) (input .input-of .ensures)) (c .before .if3 .left) (c .if4 .taken)
+
+add-passes : tie.Need-add-passes
+add-passes c = search needs
 
 mul-passes : tie.Need-mul-passes
 mul-passes c = search needs
@@ -81,11 +90,12 @@ test-requires c κs = search needs
 
 returns-5 : tie.Need-returns-5
 returns-5 c =
-    let last = c .before .before .before in
+    let last = c .before .before .before .before in
     let input = last .before .before .before in
     let k = input .before .before .before .before in
     let a = k .args in
-    room-tested (a .t1) (a .t3) (a .node) (input .before .before .before .if1 .left) (input .before .if2 .left) (waits (a .t1) (a .t3) (a .node) (input .input-of .ensures)) (k .pre) (last .if4 .left) (c .test .ensures) (c .before .passes .ensures) (last .before .if3 .left)
+    let s : Run = lentRun (a .counts .now) (a .held .now) [] in
+    room-tested (a .t1) s (a .node) (input .before .before .before .if1 .left) (input .before .if2 .left) (waits (a .t1) s (a .node) (input .input-of .ensures)) (k .pre) (last .if4 .left) (c .test .ensures) (c .before .passes .ensures) (last .before .if3 .left)
 
 pub node-check-spec : {M : Type 1} → statement M
 node-check-spec =
@@ -105,6 +115,7 @@ node-check-spec =
     refusal-requires-3
     returns-3
     returns-4
+    add-passes
     mul-passes
     element-copy-out-passes
     mul-passes-2

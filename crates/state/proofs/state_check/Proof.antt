@@ -11,9 +11,9 @@ use Rattle.chain.specs.Refusals.{refused, Silent, first-fine, lowest-is, all-si
 use Rattle.chain.specs.Record.{rowOf, workOf}
 use Rattle.chain.specs.declared.Chain.{Chain}
 use Rattle.state.specs.State.{countAt, heldAt, doneAt}
-use Rattle.state.specs.Checks.{broken, stateTest, stateCheck, ruled}
+use Rattle.state.specs.Checks.{broken, stateTest, stateCheck, lentRun, ruled}
 use Rattle.state.specs.declared.Run.{Run}
-use Rattle.state.proofs.Slots.{few, queue, queue-number, word, row, sizes, producer, next, consumer, consumer-word}
+use Rattle.state.proofs.Slots.{few, queue, queue-number, word, row, producer, next, consumer, consumer-word}
 use Rattle.state.proofs.state_check.Statement.{statement}
 use Rattle.state.proofs.state_check.Tie as tie
 
@@ -52,10 +52,10 @@ less : (n i : ℕ) → i < n → n - (i + 1) < n - i
 less n i l = omega arith
 
 abbrev Inv-loop : tie.InvT-loop
-Inv-loop chain analysis run n i₀ i = Passed chain run i
+Inv-loop plan counts held done chain n i₀ i = Passed chain (lentRun counts held done) i
 
 abbrev μ-loop : tie.MeasureT-loop
-μ-loop chain analysis run n i₀ i = n - i
+μ-loop plan counts held done chain n i₀ i = n - i
 
 cast-n : tie.Need-cast-n Inv-loop μ-loop
 cast-n c = few (c .pre .chain)
@@ -69,50 +69,53 @@ mul-is-broken c = row (c .before .before .pre .chain) _ (c .loop-test .taken)
 element-copy-out-is-broken : tie.Need-element-copy-out-is-broken Inv-loop μ-loop
 element-copy-out-is-broken c = queue (c .before .before .pre .chain) _ (c .loop-test .taken)
 
+add-is-broken : tie.Need-add-is-broken Inv-loop μ-loop
+add-is-broken c = record { fits = omega (arith, c .before .before .before .pre .chain .count .1, c .before .loop-test .taken) }
+
 mul-is-broken-2 : tie.Need-mul-is-broken-2 Inv-loop μ-loop
-mul-is-broken-2 c = sizes (c .before .before .before .pre .chain) _ (c .before .loop-test .taken)
+mul-is-broken-2 c = record { fits = omega (arith, c .before .before .before .pre .chain .count .1, c .before .loop-test .taken) }
 
 element-copy-out-is-broken-2 : tie.Need-element-copy-out-is-broken-2 Inv-loop μ-loop
-element-copy-out-is-broken-2 c = queue (c .before .before .before .pre .chain) _ (c .before .loop-test .taken)
+element-copy-out-is-broken-2 c = omega (arith, c .before .before .before .pre .chain .count .1, c .before .loop-test .taken)
 
 mul-is-broken-3 : tie.Need-mul-is-broken-3 Inv-loop μ-loop
-mul-is-broken-3 c = word (c .before .before .before .pre .chain) _ (c .before .loop-test .taken)
+mul-is-broken-3 c = word (c .before .before .before .before .pre .chain) _ (c .before .before .loop-test .taken)
 
 element-copy-out-is-broken-3 : tie.Need-element-copy-out-is-broken-3 Inv-loop μ-loop
-element-copy-out-is-broken-3 c = queue (c .before .before .before .pre .chain) _ (c .before .loop-test .taken)
+element-copy-out-is-broken-3 c = queue (c .before .before .before .before .pre .chain) _ (c .before .before .loop-test .taken)
 
 mul-is-broken-4 : tie.Need-mul-is-broken-4 Inv-loop μ-loop
-mul-is-broken-4 c = word (c .before .before .before .before .pre .chain) _ (c .before .before .loop-test .taken)
+mul-is-broken-4 c = word (c .before .before .before .before .before .pre .chain) _ (c .before .before .before .loop-test .taken)
 
 element-copy-out-is-broken-4 : tie.Need-element-copy-out-is-broken-4 Inv-loop μ-loop
-element-copy-out-is-broken-4 c = producer (c .before .before .before .before .pre .chain) _ (c .before .before .loop-test .taken)
+element-copy-out-is-broken-4 c = producer (c .before .before .before .before .before .pre .chain) _ (c .before .before .before .loop-test .taken)
 
-add-is-broken : tie.Need-add-is-broken Inv-loop μ-loop
-add-is-broken c = next (c .before .before .before .before .before .pre .chain) _ (c .before .before .before .loop-test .taken)
+add-is-broken-2 : tie.Need-add-is-broken-2 Inv-loop μ-loop
+add-is-broken-2 c = next (c .before .before .before .before .before .before .pre .chain) _ (c .before .before .before .before .loop-test .taken)
 
 mul-is-broken-5 : tie.Need-mul-is-broken-5 Inv-loop μ-loop
-mul-is-broken-5 c = consumer-word (c .before .before .before .before .before .pre .chain) _ (c .before .before .before .loop-test .taken)
+mul-is-broken-5 c = consumer-word (c .before .before .before .before .before .before .pre .chain) _ (c .before .before .before .before .loop-test .taken)
 
 element-copy-out-is-broken-5 : tie.Need-element-copy-out-is-broken-5 Inv-loop μ-loop
-element-copy-out-is-broken-5 c = consumer (c .before .before .before .before .before .pre .chain) _ (c .before .before .before .loop-test .taken)
+element-copy-out-is-broken-5 c = consumer (c .before .before .before .before .before .before .pre .chain) _ (c .before .before .before .before .loop-test .taken)
 
 mul-is-broken-6 : tie.Need-mul-is-broken-6 Inv-loop μ-loop
-mul-is-broken-6 c = word (c .before .before .before .before .before .before .pre .chain) _ (c .before .before .before .before .loop-test .taken)
+mul-is-broken-6 c = word (c .before .before .before .before .before .before .before .pre .chain) _ (c .before .before .before .before .before .loop-test .taken)
 
 element-copy-out-is-broken-6 : tie.Need-element-copy-out-is-broken-6 Inv-loop μ-loop
-element-copy-out-is-broken-6 c = queue (c .before .before .before .before .before .before .pre .chain) _ (c .before .before .before .before .loop-test .taken)
+element-copy-out-is-broken-6 c = queue (c .before .before .before .before .before .before .before .pre .chain) _ (c .before .before .before .before .before .loop-test .taken)
 
 mul-is-broken-7 : tie.Need-mul-is-broken-7 Inv-loop μ-loop
-mul-is-broken-7 c = word (c .before .before .before .before .before .before .before .pre .chain) _ (c .before .before .before .before .before .loop-test .taken)
+mul-is-broken-7 c = word (c .before .before .before .before .before .before .before .before .pre .chain) _ (c .before .before .before .before .before .before .loop-test .taken)
 
 element-copy-out-is-broken-7 : tie.Need-element-copy-out-is-broken-7 Inv-loop μ-loop
-element-copy-out-is-broken-7 c = queue (c .before .before .before .before .before .before .before .pre .chain) _ (c .before .before .before .before .before .loop-test .taken)
+element-copy-out-is-broken-7 c = queue (c .before .before .before .before .before .before .before .before .pre .chain) _ (c .before .before .before .before .before .before .loop-test .taken)
 
 is-broken-requires : tie.Need-is-broken-requires Inv-loop μ-loop
-is-broken-requires c κs = ruled (c .before .before .before .before .before .before .before .before .pre) _ (c .before .before .before .before .before .before .loop-test .taken)
+is-broken-requires c κs = ruled (c .before .before .before .before .before .before .before .before .before .pre) _ (c .before .before .before .before .before .before .before .loop-test .taken)
 
 cast-refusal : tie.Need-cast-refusal Inv-loop μ-loop
-cast-refusal c = queue-number (c .before .before .before .before .before .before .before .before .before .before .pre .chain) _ (c .before .before .before .before .before .before .before .before .loop-test .taken)
+cast-refusal c = queue-number (c .before .before .before .before .before .before .before .before .before .before .before .pre .chain) _ (c .before .before .before .before .before .before .before .before .before .loop-test .taken)
 
 refusal-requires : tie.Need-refusal-requires Inv-loop μ-loop
 refusal-requires c κs = tt
@@ -120,31 +123,35 @@ refusal-requires c κs = tt
 returns : tie.Need-returns Inv-loop μ-loop
 unfolding stateCheck
 returns c =
-    let l = c .before .before .before .before .before .before .before .before .before .before in
-    let s = l .before .args in
-    c .refusal .ensures ∙ sym (lowest-is 17 (l .loop .i) (λ e. omega arith) (stateTest (s .t1) (s .t3)) (s .t1 .n) .1 (record {
+    let l = c .before .before .before .before .before .before .before .before .before .before .before in
+    let a = l .before .args in
+    let s : Run = lentRun (a .counts .now) (a .held .now) (a .done .now) in
+    c .refusal .ensures ∙ sym (lowest-is 17 (l .loop .i) (λ e. omega arith) (stateTest (a .t1) s) (a .t1 .n) .1 (record {
       at = l .loop .i;
-      inside = c .before .before .before .before .before .before .before .before .before .loop-test .taken;
-      says = broken-here (s .t1) (s .t3) (l .loop .i) (c .before .before .is-broken .ensures) (c .before .if1 .taken);
+      inside = c .before .before .before .before .before .before .before .before .before .before .loop-test .taken;
+      says = broken-here (a .t1) s (l .loop .i) (c .before .before .is-broken .ensures) (c .before .if1 .taken);
       before = l .loop .inv .silent;
     }))
 
 add-i : tie.Need-add-i Inv-loop μ-loop
-add-i c = next (c .before .before .before .before .before .before .before .before .before .before .pre .chain) _ (c .before .before .before .before .before .before .before .before .loop-test .taken)
+add-i c = next (c .before .before .before .before .before .before .before .before .before .before .before .pre .chain) _ (c .before .before .before .before .before .before .before .before .before .loop-test .taken)
 
 loop-less : tie.Need-loop-less Inv-loop μ-loop
-loop-less c = less _ _ (c .before .before .before .before .before .before .before .before .loop-test .taken)
+loop-less c = less _ _ (c .before .before .before .before .before .before .before .before .before .loop-test .taken)
 
 loop-again : tie.Need-loop-again Inv-loop μ-loop
-loop-again c = more _ _ _ (c .before .is-broken .ensures) (c .if1 .left) (c .before .before .before .before .before .before .before .before .before .loop .inv) (c .before .before .before .before .before .before .before .before .loop-test .taken)
+loop-again c =
+    let a = c .before .before .before .before .before .before .before .before .before .before .before .args in
+    more (a .t1) (lentRun (a .counts .now) (a .held .now) (a .done .now)) _ (c .before .is-broken .ensures) (c .if1 .left) (c .before .before .before .before .before .before .before .before .before .before .loop .inv) (c .before .before .before .before .before .before .before .before .before .loop-test .taken)
 
 returns-2 : tie.Need-returns-2 Inv-loop μ-loop
 unfolding stateCheck
 returns-2 c =
     let l = c .before in
-    let s = l .before .args in
-    let quiet : (j : ℕ) → j < s .t1 .n → Silent (stateTest (s .t1) (s .t3) j) = λ j h. l .loop .inv .silent j (omega (arith, c .loop-test .left)) in
-    sym (first-fine (tab (s .t1 .n) (stateTest (s .t1) (s .t3))) (all-silent (stateTest (s .t1) (s .t3)) (s .t1 .n) .1 quiet))
+    let a = l .before .args in
+    let s : Run = lentRun (a .counts .now) (a .held .now) (a .done .now) in
+    let quiet : (j : ℕ) → j < a .t1 .n → Silent (stateTest (a .t1) s j) = λ j h. l .loop .inv .silent j (omega (arith, c .loop-test .left)) in
+    sym (first-fine (tab (a .t1 .n) (stateTest (a .t1) s)) (all-silent (stateTest (a .t1) s) (a .t1 .n) .1 quiet))
 
 pub state-check-spec : {M : Type 1} → statement M
 state-check-spec =
@@ -156,13 +163,14 @@ state-check-spec =
     loop-holds
     mul-is-broken
     element-copy-out-is-broken
+    add-is-broken
     mul-is-broken-2
     element-copy-out-is-broken-2
     mul-is-broken-3
     element-copy-out-is-broken-3
     mul-is-broken-4
     element-copy-out-is-broken-4
-    add-is-broken
+    add-is-broken-2
     mul-is-broken-5
     element-copy-out-is-broken-5
     mul-is-broken-6

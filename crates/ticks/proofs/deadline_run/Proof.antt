@@ -4,32 +4,32 @@ use Rattle.ticks.proofs.Answers.{run-chain-refuses, run-long, run-asks,
 use Rattle.ticks.proofs.deadline_run.Statement.{statement}
 use Rattle.ticks.proofs.deadline_run.Tie as tie
 
-checked-for-run-requires : tie.Need-checked-for-run-requires
-checked-for-run-requires c κs = search needs
+planned-for-run-requires : tie.Need-planned-for-run-requires
+planned-for-run-requires c κs = search needs
 
 refused-requires : tie.Need-refused-requires
 refused-requires c κs = search needs
 
 returns : tie.Need-returns
-returns c = c .refused .ensures ∙ run-chain-refuses _ _ (c .before .before .before .checked-for-run .ensures) (c .before .if1 .taken)
+returns c = c .refused .ensures ∙ run-chain-refuses _ _ (c .before .before .before .planned-for-run .ensures) (c .before .if1 .taken)
 
 refused-requires-2 : tie.Need-refused-requires-2
 refused-requires-2 c κs = search needs
 
 returns-2 : tie.Need-returns-2
-returns-2 c = c .refused2 .ensures ∙ run-long _ _ (c .before .before .before .before .checked-for-run .ensures) (c .before .before .if1 .left) (c .before .if2 .taken)
+returns-2 c = c .refused2 .ensures ∙ run-long _ _ (c .before .before .before .before .planned-for-run .ensures) (c .before .before .if1 .left) (c .before .if2 .taken)
 
 ran-requires : tie.Need-ran-requires
-ran-requires c κs = run-asks _ _ (c .before .before .before .checked-for-run .ensures) (c .before .if1 .left) (c .if2 .left)
+ran-requires c κs = run-asks _ _ (c .before .before .before .planned-for-run .ensures) (c .before .if1 .left) (c .if2 .left)
 
 returns-3 : tie.Need-returns-3
-returns-3 c = run-answers _ _ (c .before .before .before .before .checked-for-run .ensures) (c .before .before .if1 .left) (c .before .if2 .left) (c .ran .ensures)
+returns-3 c = run-answers _ _ (c .before .before .before .before .planned-for-run .ensures) (c .before .before .if1 .left) (c .before .if2 .left) (c .ran .ensures)
 
 pub deadline-run-spec : {M : Type 1} → statement M
 deadline-run-spec =
     tie.close
     (tie.spec
-    checked-for-run-requires
+    planned-for-run-requires
     refused-requires
     returns
     refused-requires-2

@@ -1,48 +1,63 @@
 use borrow.Author.Needs.{needs}
 use mathlib.Core.Path.{_∙_}
-use Rattle.state.specs.Checks.{analysed-run}
+use Rattle.state.specs.Checks.{state-lent, planned-run}
 use Rattle.ticks.proofs.Answers.{few, tick-chain-refuses, tick-state-refuses, tick-late, tick-asks, tick-answers}
 use Rattle.ticks.proofs.tick.Statement.{statement}
 use Rattle.ticks.proofs.tick.Tie as tie
 
-checked-for-run-requires : tie.Need-checked-for-run-requires
-checked-for-run-requires c κs = search needs
+planned-for-run-requires : tie.Need-planned-for-run-requires
+planned-for-run-requires c κs = search needs
 
 refused-requires : tie.Need-refused-requires
 refused-requires c κs = search needs
 
 returns : tie.Need-returns
-returns c = c .refused .ensures ∙ tick-chain-refuses _ _ (c .before .before .before .checked-for-run .ensures) (c .before .if1 .taken)
+returns c = c .refused .ensures ∙ tick-chain-refuses _ _ (c .before .before .before .planned-for-run .ensures) (c .before .if1 .taken)
 
 state-check-requires : tie.Need-state-check-requires
-state-check-requires c κs = analysed-run _ (c .before .before .checked-for-run .ensures) (c .if1 .left)
+state-check-requires c κs = planned-run (c .before .before .before .before .before .before .before .planned-for-run .ensures) (c .before .before .before .before .before .if1 .left)
 
 refused-requires-2 : tie.Need-refused-requires-2
 refused-requires-2 c κs = search needs
 
 returns-2 : tie.Need-returns-2
-returns-2 c = c .refused2 .ensures ∙ tick-state-refuses _ _ (c .before .before .before .before .before .before .checked-for-run .ensures) (c .before .before .before .before .if1 .left) (c .before .before .before .state-check .ensures) (c .before .if2 .taken)
+returns-2 c =
+    let state = c .before .before .before in
+    let chain = state .before .before .before .before .before .before .before .before in
+    c .refused2 .ensures ∙ tick-state-refuses _ _ (chain .planned-for-run .ensures) (state .before .before .before .before .before .before .if1 .left) (state .state-check .ensures ∙ state-lent _ (chain .before .before .args .t2)) (c .before .if2 .taken)
 
 late-check-requires : tie.Need-late-check-requires
-late-check-requires c κs = few _ (c .before .before .before .before .before .checked-for-run .ensures) (c .before .before .before .if1 .left)
+late-check-requires c κs = few (c .before .before .before .before .before .before .before .before .before .before .planned-for-run .ensures) (c .before .before .before .before .before .before .before .before .if1 .left)
 
 refused-requires-3 : tie.Need-refused-requires-3
 refused-requires-3 c κs = search needs
 
 returns-3 : tie.Need-returns-3
-returns-3 c = c .refused3 .ensures ∙ tick-late _ _ (c .before .before .before .before .before .before .before .before .before .checked-for-run .ensures) (c .before .before .before .before .before .before .before .if1 .left) (c .before .before .before .before .before .before .state-check .ensures) (c .before .before .before .before .if2 .left) (c .before .before .before .late-check .ensures) (c .before .if3 .taken)
+returns-3 c =
+    let late = c .before .before .before in
+    let state = late .before .before .before in
+    let chain = state .before .before .before .before .before .before .before .before in
+    c .refused3 .ensures ∙ tick-late _ _ (chain .planned-for-run .ensures) (state .before .before .before .before .before .before .if1 .left) (state .state-check .ensures ∙ state-lent _ (chain .before .before .args .t2)) (late .before .if2 .left) (late .late-check .ensures) (c .before .if3 .taken)
 
 ticked-requires : tie.Need-ticked-requires
-ticked-requires c κs = tick-asks _ _ (c .before .before .before .before .before .before .before .before .checked-for-run .ensures) (c .before .before .before .before .before .before .if1 .left) (c .before .before .before .before .before .state-check .ensures) (c .before .before .before .if2 .left) (c .before .before .late-check .ensures) (c .if3 .left)
+ticked-requires c κs =
+    let late = c .before .before .before in
+    let state = late .before .before .before in
+    let chain = state .before .before .before .before .before .before .before .before in
+    tick-asks _ _ (chain .planned-for-run .ensures) (state .before .before .before .before .before .before .if1 .left) (state .state-check .ensures ∙ state-lent _ (chain .before .before .args .t2)) (late .before .if2 .left) (late .late-check .ensures) (c .before .if3 .left)
 
 returns-4 : tie.Need-returns-4
-returns-4 c = tick-answers _ _ (c .before .before .before .before .before .before .before .before .before .checked-for-run .ensures) (c .before .before .before .before .before .before .before .if1 .left) (c .before .before .before .before .before .before .state-check .ensures) (c .before .before .before .before .if2 .left) (c .before .before .before .late-check .ensures) (c .before .if3 .left) (c .ticked .ensures)
+returns-4 c =
+    let late = c .before .before .before .before in
+    let state = late .before .before .before in
+    let chain = state .before .before .before .before .before .before .before .before in
+    tick-answers _ _ (chain .planned-for-run .ensures) (state .before .before .before .before .before .before .if1 .left) (state .state-check .ensures ∙ state-lent _ (chain .before .before .args .t2)) (late .before .if2 .left) (late .late-check .ensures) (c .before .before .if3 .left) (c .ticked .ensures)
 
 pub tick-spec : {M : Type 1} → statement M
 tick-spec =
     tie.close
     (tie.spec
-    checked-for-run-requires
+    planned-for-run-requires
     refused-requires
     returns
     state-check-requires
