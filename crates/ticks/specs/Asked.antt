@@ -1,47 +1,35 @@
 -- What the code of a tick and of a run hands on.
---   sourced-held             the source's step changes the contents of its own queue alone
 --   tick-stands, -passes, -node, -left
 --                            one tick: the state that is lent passes 17, what the tick asks, the node that it names, and the answer
 --   run-stands, -lends, -node, -left
 --                            the same of a run
 use mathlib.Core.Path.{_≡_, refl, subst}
 use mathlib.Core.Logic.{_≢_, inl, inr, by-cases}
-use mathlib.Core.Bool.{Bool, true, false, cond}
+use mathlib.Core.Bool.{true, false}
 use mathlib.Core.List.{List}
-use Prim.Native.Nat.{ℕ, _≤_, _<_}
+use Prim.Native.Nat.{ℕ, _≤_}
 use native.Mathlib.Decide.{ℕ-discrete}
 use native.Mathlib.Omega.{arith}
 use lib.ListN.{length, replicate}
 use Rattle.chain.specs.Record.{rowOf}
 use Rattle.chain.specs.declared.Chain.{Chain}
 use Rattle.sizing.specs.Checks.{limit}
-use Rattle.state.specs.State.{countAt, heldAt, freshRun, fresh-count}
-use Rattle.state.specs.Fired.{fired, held-other}
-use Rattle.state.specs.Checks.{cramped}
+use Rattle.state.specs.State.{countAt, freshRun, fresh-count}
 use Rattle.state.specs.declared.Run.{Run}
 use Rattle.past.specs.Runs.{Whole}
 use Rattle.flow.specs.Flow.{Shows}
 use Rattle.flow.specs.Poured.{Showing}
-use Rattle.instants.specs.Steps.{clean, overflowed, divides, sourced, tick, ticks}
+use Rattle.instants.specs.Steps.{sourced, tick, ticks}
 use Rattle.instants.specs.Refusals.{ranAs}
+use Rattle.instants.specs.Kept.{sourced-others, sourced-held}
 use Rattle.instants.specs.Fresh.{fresh-running}
 use Rattle.steps.specs.Lent.{Stands, Keeps}
 use Rattle.steps.specs.Passed.{Stand, DuesGive, PassIn, Passes, PassTo, PassGives}
 use Rattle.steps.specs.declared.Passed.{Passed}
 use Rattle.ticks.specs.Left.{leftBy, left-is}
 use Rattle.ticks.specs.Runs.{TickAsk, RunAsk, LendsIn, Lends, RanTo, RanGives}
-use Rattle.ticks.specs.Passes.{sourced-others, kept-as}
+use Rattle.ticks.specs.Passes.{kept-as}
 use Rattle.ticks.specs.declared.Ended.{Ended}
-
--- the source's step changes the contents of its own queue alone
-sourced-held : (c : Chain) (s : Run) (j : ℕ) → 0 < j → heldAt (sourced c s .run) j ≡ heldAt s j
-unfolding sourced
-sourced-held c s j l = by (divides (c .period) (s .clock)) (cramped c s 0)
-  where
-    by : (d x : Bool) → heldAt ((cond d (cond x (overflowed s (s .clock) 0) (clean (fired c s 0))) (clean s)) .run) j ≡ heldAt s j
-    by true true = refl
-    by true false = held-other c s 0 j (λ e. omega arith) (λ e. omega arith)
-    by false x = refl
 
 module _ {c : Chain} {p : List ℕ} {s : Run} (k : TickAsk c p s) {f : List ℕ} (y : Showing f c s) where
   whole : Whole s

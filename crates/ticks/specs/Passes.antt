@@ -1,6 +1,6 @@
 -- A deadline run over what it lends: what holds before each tick.
---   sourced-others           the source's step changes no other node's count
---   tick-next                one tick more
+--   kept-as, keeps-source    a deadline that is kept stays right while its node's count stays, so after the source's step
+--   tick-next, tick-stands   one tick more, and an outcome that is not clean stands
 --   Gone c T m g d e i       m ticks from a fresh start were clean, and what is lent shows where they led
 --   Going                    of every chain that is lent
 --   going-none, -pass, -rests, -dates, -fires
@@ -18,16 +18,15 @@ use lib.ListN.{length, set, length-set}
 use lib.Seq.{getD-set-same, getD-set-other}
 use Rattle.chain.specs.declared.Chain.{Chain}
 use Rattle.state.specs.State.{countAt, freshRun}
-use Rattle.state.specs.Fired.{fired, count-other}
-use Rattle.state.specs.Checks.{cramped}
+use Rattle.state.specs.Fired.{fired}
 use Rattle.state.specs.declared.Run.{Run}
 use Rattle.flow.specs.Flow.{Shows}
 use Rattle.deadline.specs.Question.{datedOf}
 use Rattle.deadline.specs.Dues.{Shown, Dated, DatedGives}
 use Rattle.instants.specs.Checks.{longest}
-use Rattle.instants.specs.Steps.{clean, overflowed, goes, onward, divides, sourced, next, tick, ticks}
+use Rattle.instants.specs.Steps.{clean, goes, onward, sourced, next, tick, ticks}
 use Rattle.instants.specs.Runs.{onward-none, ticks-none, ticks-suc, ticks-more}
-use Rattle.instants.specs.Kept.{TickStep, tick-step}
+use Rattle.instants.specs.Kept.{sourced-others, TickStep, tick-step}
 use Rattle.instants.specs.Fresh.{Paced, fresh-paced, tick-paced}
 use Rattle.instants.specs.declared.Outcome.{Outcome}
 use Rattle.instants.specs.declared.Outcome.the-variants.{Clean, Overflowed, NoDeadline}
@@ -37,16 +36,6 @@ use Rattle.steps.specs.Passed.{PassIn, Passes, PassTo, PassGives}
 use Rattle.steps.specs.Ticked.{as-clean, as-unclean}
 use Rattle.steps.specs.declared.Passed.{Passed}
 use Rattle.ticks.specs.Runs.{KeepsAll, LendsIn, Lends, RanTo, RanGives}
-
--- the source's step changes no other node's count
-pub sourced-others : (c : Chain) (s : Run) (j : ℕ) → countAt (sourced c s .run) (suc j) ≡ countAt s (suc j)
-unfolding sourced
-sourced-others c s j = by (divides (c .period) (s .clock)) (cramped c s 0)
-  where
-    by : (d x : Bool) → countAt ((cond d (cond x (overflowed s (s .clock) 0) (clean (fired c s 0))) (clean s)) .run) (suc j) ≡ countAt s (suc j)
-    by true true = refl
-    by true false = count-other c s 0 (suc j) (λ e. omega arith)
-    by false x = refl
 
 -- a deadline that is kept stays right as long as the node's count does
 pub kept-as : (c : Chain) (s t : Run) (j : ℕ) {v : ℕ} → countAt t (suc j) ≡ countAt s (suc j) → v ≡ datedOf c (suc j) (next s (suc j)) → v ≡ datedOf c (suc j) (next t (suc j))

@@ -1,7 +1,6 @@
 // One tick of a run state, by value, and the deadline run from a fresh start. Both make the same pass over what they lend:
 // a tick once, a run for every tick, its chain being checked once and a node's deadline kept until the node fires.
 ghost use mathlib.Core.Path.{_≡_};
-ghost use mathlib.Core.Bool.{Bool};
 ghost use Prim.Native.Nat.{_≤_};
 ghost use Rattle.chain.specs.Refusals.{orElse};
 ghost use Rattle.instants.specs.Checks.{clockCheck, spentCheck, tickAnswer, deadlineRunAnswer};

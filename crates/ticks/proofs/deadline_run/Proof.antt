@@ -1,3 +1,4 @@
+-- `ticks::deadline_run` meets its contract: the chain may not run, or the run is too long, or its ticks are made.
 use borrow.Author.Needs.{needs}
 use mathlib.Core.Path.{_∙_}
 use Rattle.ticks.proofs.Answers.{run-chain-refuses, run-long, run-asks, run-answers}

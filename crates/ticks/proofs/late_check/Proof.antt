@@ -1,3 +1,4 @@
+-- `ticks::late_check` meets its contract: the clock is at its end, or before node i is looked at no count before it is at the limit.
 use Prim.Native.Nat.{_+_, _-_}
 use borrow.Author.Needs.{needs}
 use Rattle.ticks.specs.Late.{late-clock, Unspent, unspent-none, unspent-more, unspent-found, unspent-end}

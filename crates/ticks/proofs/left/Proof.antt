@@ -1,3 +1,4 @@
+-- `ticks::left` meets its contract: the state is read out of the flow, with the clock that the outcome leaves.
 use borrow.Author.Needs.{needs}
 use Rattle.ticks.proofs.left.Statement.{statement}
 use Rattle.ticks.proofs.left.Tie as tie

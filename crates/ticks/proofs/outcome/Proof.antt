@@ -1,3 +1,4 @@
+-- `ticks::outcome` meets its contract: each code is one outcome.
 use Rattle.ticks.specs.Left.{outcome-clean, outcome-overflowed, outcome-undated}
 use Rattle.ticks.proofs.outcome.Statement.{statement}
 use Rattle.ticks.proofs.outcome.Tie as tie

@@ -1,3 +1,4 @@
+-- `ticks::passes` meets its contract: before the m-th tick all before it were clean, and what is lent shows where they led (`Going`).
 use mathlib.Core.Logic.{⊎-elim}
 use Prim.Native.Nat.{_-_}
 use native.Mathlib.Omega.{arith}

@@ -1,3 +1,4 @@
+-- `ticks::ran` meets its contract: a fresh start is lent, with every node's deadline.
 use borrow.Author.Needs.{needs}
 use mathlib.Core.Path.{_∙_}
 use Rattle.ticks.specs.Asked.{run-stands, run-lends, run-node, run-left}

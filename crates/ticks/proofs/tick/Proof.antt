@@ -1,3 +1,4 @@
+-- `ticks::tick` meets its contract: the chain may not run, or the state is damaged, or clock or count is at its end, or the tick is made.
 use borrow.Author.Needs.{needs}
 use mathlib.Core.Path.{_∙_}
 use Rattle.state.specs.Checks.{state-lent, planned-run}

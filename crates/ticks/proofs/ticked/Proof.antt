@@ -1,3 +1,4 @@
+-- `ticks::ticked` meets its contract: what one pass asks is shown by the state that is lent, with the deadlines of the nodes over threshold.
 use borrow.Author.Needs.{needs}
 use mathlib.Core.Path.{_∙_}
 use Rattle.ticks.specs.Asked.{tick-stands, tick-passes, tick-node, tick-left}
