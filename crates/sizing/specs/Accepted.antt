@@ -4,7 +4,7 @@
 --   analyse-accepts          a chain is not refused exactly when it is accepted
 --   analysed                 the same of an answer that code was given
 --   run-accepts              and a run does not refuse it exactly when each of its capacities is enough, too
---   run-said, -quiet, -analysis
+--   run-said, run-quiet
 --                            what code was answered that asked whether a chain may run
 --   SizeFits q, size-fits    the numbers of a queue's line: x and y up to the limit, minimum up to 131,069, naming count up to
 --                            65,535, capacity up to 1,000,000, and the margin between minus and plus a million
@@ -26,7 +26,7 @@ use Rattle.onequeue.specs.Capacity.{margin}
 use Rattle.sizing.specs.Nodes.{yOf}
 use Rattle.sizing.specs.Load.{busyOf, cycleOf}
 use Rattle.sizing.specs.Sizes.{sizeBy, sizeOf, analysisOf, sized, sized-fine, minimum-most, naming-most, capacity-most}
-use Rattle.sizing.specs.Checks.{limit, InLimit, Enough, sizeChecks, analyseChecks, analyseRefusal, analyseAnswer, runChecks, runRefusal, runAnswer, capacityCheck, analyse-parts, run-parts, rates-silent, load-silent, capacity-silent}
+use Rattle.sizing.specs.Checks.{limit, InLimit, Enough, sizeChecks, analyseChecks, analyseRefusal, analyseAnswer, runRefusal, runAnswer, capacityCheck, analyse-parts, run-parts, rates-silent, load-silent, capacity-silent}
 use Rattle.sizing.specs.declared.QueueSize.{QueueSize}
 use Rattle.sizing.specs.declared.AnalysisAnswer.{AnalysisAnswer}
 
@@ -63,7 +63,7 @@ run-accepts c =
     Iff·trans (silent-as (run-parts c), silent-as (sym (run-parts c)))
     (Iff·trans (or-silents (analyseRefusal c) (capacityCheck c)) (Iff·and (analyse-accepts c) (capacity-silent c)))
 
--- what code was answered that asked whether a chain may run: the refusal, or the analysis of a chain that may
+-- what code was answered that asked whether a chain may run
 module _ {a : AnalysisAnswer} (c : Chain) (e : a ≡ runAnswer c) where
   pub run-said : refused (a .number) (a .place) ≡ runRefusal c
   unfolding runAnswer sized
@@ -71,10 +71,6 @@ module _ {a : AnalysisAnswer} (c : Chain) (e : a ≡ runAnswer c) where
 
   pub run-quiet : a .number ≡ 0 → Silent (runRefusal c)
   run-quiet z = silent-as run-said z
-
-  pub run-analysis : a .number ≡ 0 → a .analysis ≡ analysisOf c
-  unfolding runAnswer runRefusal sized
-  run-analysis z = ap (λ (b : AnalysisAnswer). b .analysis) (e ∙ sym (sized-fine c (sym (first-fine (runChecks c) (run-quiet z)))))
 
 -- the numbers of a queue's line
 pub record SizeFits (q : QueueSize) : Type 0 where

@@ -45,9 +45,6 @@ module _ {l f : List ℕ} {i : ℕ} (r : Rooms l f i) where
   pub rooms-size : sizeIn f ≤ 16
   rooms-size = omega (arith, r .shown .shows .many, r .shown .shows .few)
 
-  pub rooms-node : i ≤ 16
-  rooms-node = omega (arith, r .node, r .shown .shows .few)
-
   pub rooms-sum : i < sizeIn f → heldIn f i + produceIn f i < 2 ^ 32
   rooms-sum h =
       let m : i < r .chain .n = omega (arith, r .shown .shows .many) in
@@ -88,12 +85,6 @@ source-firing {c = c} {s = s} x e = record {
 }
 
 module _ {l f : List ℕ} {t : ℕ} where
-  pub source-rooms : Sources l f t → Rooms l f 0
-  source-rooms a = record { chain = a .chain; run = a .run; shown = a .stands .shown; running = a .stands .running; node = omega arith }
-
-  pub source-period : Sources l f t → 0 < periodIn l
-  source-period a = omega (arith, a .stands .shown .plans .period, a .stands .running .chain .chain .period .0)
-
   pub source-ready : Sources l f t → fullIn l f 0 ≡ false → Ready f 0
   source-ready a e = record {
     chain = a .chain;
@@ -235,10 +226,6 @@ module _ {l f e : List ℕ} {i : ℕ} where
     running = a .ends .running;
     node = omega (arith, a .ends .is, a .ends .inside);
   }
-
-  -- N_i has a queue before it
-  pub finish-node : Ends l f e i → (0 < i) × (i ≤ 16)
-  finish-node a = (omega (arith, a .ends .is), omega (arith, a .ends .is, a .ends .inside, a .ends .shown .shows .few))
 
   pub finish-ready : Ends l f e i → fullIn l f i ≡ false → Ready f i
   finish-ready a h = rw (a .ends .is) (record {

@@ -1,7 +1,7 @@
 -- The scans of the nodes, for 13 and for the choice: what holds before node j+1 is looked at.
 --   Looked f d j             13 says nothing of the first j nodes
---   looked-none, -rests, -dated, -found, -end
---                            at the start, past a node below threshold, past one whose deadline can be had, at one whose deadline cannot, and at the end
+--   looked-rests, -dated, -found, -end
+--                            past a node below threshold, past one whose deadline can be had, at one whose deadline cannot, and at the end
 --   choice c s j, earliestOf c s i
 --                            the choice among the first j nodes, and the deadline of N_i, or never for N_0
 --   Chosen f d j i e         i is the choice among the first j nodes, and e its deadline, or never where there is none
@@ -53,9 +53,6 @@ lack-at j = let n : suc j ≢ 0 = λ e. omega arith in rw add-one (simp (ne-eqb 
 pub record Looked (f d : List ℕ) (j : ℕ) : Type 0 where
   pub reach : j ≤ sizeIn f
   pub silent : {c : Chain} {s : Run} → Sound c → Shows f c s → Keeps d c s → (k : ℕ) → k < j → Silent (lackingTest c s (suc k))
-
-pub looked-none : (f d : List ℕ) → Looked f d 0
-looked-none f d = record { reach = omega arith; silent = λ k x e m h. absurd (omega arith) }
 
 module _ {f d : List ℕ} {j : ℕ} (a : Looked f d j) (h : j < sizeIn f) where
   -- one node more

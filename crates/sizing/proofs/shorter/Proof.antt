@@ -1,6 +1,6 @@
 use borrow.Author.Needs.{needs}
 -- `sizing::shorter` meets its contract: what was said stands, or queue i is looked at.
-use mathlib.Core.Path.{refl, _∙_}
+use mathlib.Core.Path.{refl}
 use Rattle.chain.specs.Refusals.{or-left, or-right}
 use Rattle.sizing.proofs.shorter.Statement.{statement}
 use Rattle.sizing.proofs.shorter.Tie as tie
