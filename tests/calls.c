@@ -69,6 +69,35 @@ static void take(void *bytes, size_t length)
         give_up("the input ends within a request");
 }
 
+/* Takes a chain, a run state, a number and a length: what requests are made of. */
+static struct ardenquill_chain take_chain(void)
+{
+    struct ardenquill_chain chain;
+    take(&chain, sizeof chain);
+    return chain;
+}
+
+static struct ardenquill_run take_run(void)
+{
+    struct ardenquill_run run;
+    take(&run, sizeof run);
+    return run;
+}
+
+static uint32_t take_number(void)
+{
+    uint32_t number;
+    take(&number, sizeof number);
+    return number;
+}
+
+static uint64_t take_length(void)
+{
+    uint64_t length;
+    take(&length, sizeof length);
+    return length;
+}
+
 /* Puts bytes of an answer. */
 static void put(const void *bytes, size_t length)
 {
@@ -111,8 +140,7 @@ static void answer_read(void)
 /* Answers w. */
 static void answer_write(void)
 {
-    struct ardenquill_chain chain;
-    take(&chain, sizeof chain);
+    struct ardenquill_chain chain = take_chain();
     struct memory memory = take_memory();
     struct ardenquill_length_answer answer = ardenquill_write(chain, memory.lent, memory.lent_length);
     put(&answer, sizeof answer);
@@ -122,8 +150,7 @@ static void answer_write(void)
 /* Answers f. */
 static void answer_factory(void)
 {
-    uint32_t number;
-    take(&number, sizeof number);
+    uint32_t number = take_number();
     struct ardenquill_chain_answer answer = ardenquill_factory(number);
     put(&answer, sizeof answer);
 }
@@ -131,8 +158,7 @@ static void answer_factory(void)
 /* Answers a. */
 static void answer_analyse(void)
 {
-    struct ardenquill_chain chain;
-    take(&chain, sizeof chain);
+    struct ardenquill_chain chain = take_chain();
     struct ardenquill_analysis_answer answer = ardenquill_analyse(chain);
     put(&answer, sizeof answer);
 }
@@ -152,8 +178,7 @@ static void answer_report(void)
 /* Answers s. */
 static void answer_fresh(void)
 {
-    struct ardenquill_chain chain;
-    take(&chain, sizeof chain);
+    struct ardenquill_chain chain = take_chain();
     struct ardenquill_run_answer answer = ardenquill_fresh(chain);
     put(&answer, sizeof answer);
 }
@@ -161,12 +186,9 @@ static void answer_fresh(void)
 /* Answers m. */
 static void answer_fire(void)
 {
-    struct ardenquill_chain chain;
-    take(&chain, sizeof chain);
-    struct ardenquill_run run;
-    take(&run, sizeof run);
-    uint32_t node;
-    take(&node, sizeof node);
+    struct ardenquill_chain chain = take_chain();
+    struct ardenquill_run run = take_run();
+    uint32_t node = take_number();
     struct ardenquill_run_answer answer = ardenquill_fire(chain, run, node);
     put(&answer, sizeof answer);
 }
@@ -174,12 +196,9 @@ static void answer_fire(void)
 /* Answers h. */
 static void answer_history(void)
 {
-    struct ardenquill_chain chain;
-    take(&chain, sizeof chain);
-    struct ardenquill_run run;
-    take(&run, sizeof run);
-    uint64_t length;
-    take(&length, sizeof length);
+    struct ardenquill_chain chain = take_chain();
+    struct ardenquill_run run = take_run();
+    uint64_t length = take_length();
     uint32_t *nodes = malloc(length * sizeof *nodes);
     if (nodes == NULL && length > 0)
         give_up("no memory");
@@ -195,10 +214,8 @@ static void answer_history(void)
 /* Answers i. */
 static void answer_immediate(void)
 {
-    struct ardenquill_chain chain;
-    take(&chain, sizeof chain);
-    uint32_t k;
-    take(&k, sizeof k);
+    struct ardenquill_chain chain = take_chain();
+    uint32_t k = take_number();
     struct ardenquill_run_answer answer = ardenquill_immediate(chain, k);
     put(&answer, sizeof answer);
 }
@@ -206,11 +223,9 @@ static void answer_immediate(void)
 /* Answers q. */
 static void answer_deadline(void)
 {
-    struct ardenquill_chain chain;
-    take(&chain, sizeof chain);
-    uint32_t node, index;
-    take(&node, sizeof node);
-    take(&index, sizeof index);
+    struct ardenquill_chain chain = take_chain();
+    uint32_t node = take_number();
+    uint32_t index = take_number();
     struct ardenquill_deadline_answer answer = ardenquill_deadline(chain, node, index);
     put(&answer, sizeof answer);
 }
@@ -218,10 +233,8 @@ static void answer_deadline(void)
 /* Answers d. */
 static void answer_deadline_run(void)
 {
-    struct ardenquill_chain chain;
-    take(&chain, sizeof chain);
-    uint32_t ticks;
-    take(&ticks, sizeof ticks);
+    struct ardenquill_chain chain = take_chain();
+    uint32_t ticks = take_number();
     struct ardenquill_outcome_run answer = ardenquill_deadline_run(chain, ticks);
     put(&answer, sizeof answer);
 }
@@ -229,10 +242,8 @@ static void answer_deadline_run(void)
 /* Answers e. */
 static void answer_each_length(void)
 {
-    struct ardenquill_chain chain;
-    take(&chain, sizeof chain);
-    uint32_t most;
-    take(&most, sizeof most);
+    struct ardenquill_chain chain = take_chain();
+    uint32_t most = take_number();
     for (uint64_t ticks = 0; ticks <= most; ticks++) {
         struct ardenquill_outcome_run answer = ardenquill_deadline_run(chain, (uint32_t)ticks);
         put(&answer, sizeof answer);
@@ -242,10 +253,8 @@ static void answer_each_length(void)
 /* Answers t. */
 static void answer_tick(void)
 {
-    struct ardenquill_chain chain;
-    take(&chain, sizeof chain);
-    struct ardenquill_run run;
-    take(&run, sizeof run);
+    struct ardenquill_chain chain = take_chain();
+    struct ardenquill_run run = take_run();
     struct ardenquill_outcome_run answer = tickcall(chain, run);
     put(&answer, sizeof answer);
 }
@@ -253,12 +262,9 @@ static void answer_tick(void)
 /* Answers k. */
 static void answer_ticks(void)
 {
-    struct ardenquill_chain chain;
-    take(&chain, sizeof chain);
-    struct ardenquill_run run;
-    take(&run, sizeof run);
-    uint64_t length;
-    take(&length, sizeof length);
+    struct ardenquill_chain chain = take_chain();
+    struct ardenquill_run run = take_run();
+    uint64_t length = take_length();
     for (uint64_t i = 0; i < length; i++) {
         struct ardenquill_outcome_run answer = tickcall(chain, run);
         put(&answer, sizeof answer);
@@ -269,13 +275,11 @@ static void answer_ticks(void)
 /* Answers u. */
 static void answer_ticks_while_clean(void)
 {
-    struct ardenquill_chain chain;
-    take(&chain, sizeof chain);
+    struct ardenquill_chain chain = take_chain();
     struct ardenquill_outcome_run last;
     memset(&last, 0, sizeof last);
-    take(&last.run, sizeof last.run);
-    uint64_t length;
-    take(&length, sizeof length);
+    last.run = take_run();
+    uint64_t length = take_length();
     for (uint64_t i = 0; i < length && last.number == 0 && last.kind == ARDENQUILL_CLEAN; i++)
         last = tickcall(chain, last.run);
     put(&last, sizeof last);
@@ -284,10 +288,8 @@ static void answer_ticks_while_clean(void)
 /* Answers l. */
 static void answer_large(void)
 {
-    struct ardenquill_chain chain;
-    take(&chain, sizeof chain);
-    uint64_t length;
-    take(&length, sizeof length);
+    struct ardenquill_chain chain = take_chain();
+    uint64_t length = take_length();
     uint8_t *bytes = calloc(length, 1);
     uint8_t had = bytes != NULL;
     put(&had, sizeof had);

@@ -157,7 +157,8 @@ pub fn sourced(plan: &[u32; PLAN], flow: &mut [u32; LENGTH], clock: u32) -> bool
     true
 }
 
-// 13: the lowest node over threshold whose deadline cannot be had; 0 where there is none.
+// 13: the lowest node over threshold whose deadline cannot be had; 0 where there is none. The deadline is tested first, since
+// hardly one cannot be had, and the test is then foreseen.
 pub fn lacking(flow: &[u32; LENGTH], due: &[u64; 16]) -> usize
     requires { ⌜ Looks (now flow) ⌝ }
     ensures { λ r. ⌜ LackingGives (now (flow .entry)) (now (due .entry)) r ⌝ }
@@ -165,8 +166,8 @@ pub fn lacking(flow: &[u32; LENGTH], due: &[u64; 16]) -> usize
     let n = flow[SIZE] as usize;
     let mut j = 0;
     while j < n {
-        if flow[THRESHOLD + j] <= flow[HELD + j] {
-            if due[j] == NEVER {
+        if due[j] == NEVER {
+            if flow[THRESHOLD + j] <= flow[HELD + j] {
                 return j + 1;
             }
         }
@@ -196,7 +197,7 @@ pub fn chosen(flow: &[u32; LENGTH], due: &[u64; 16]) -> usize
     node
 }
 
-// One tick of work of node i, where there is one.
+// One tick of work of node i, where there is one; the clock goes on in `pass`.
 pub fn worked(done: &mut [u32; 16], i: usize)
     requires { ⌜ Works (now done) i ⌝ }
     ensures { λ _. ⌜ now (done .exit) ≡ workedIn (now (done .entry)) i ⌝ }

@@ -53,15 +53,20 @@ fn accepted_of(random: &mut Random, pairs: impl Fn(&mut Random) -> Vec<[u32; 2]>
     }
 }
 
-/// A queue of a produce and a consume, with a capacity of 0, around the minimum, or above it.
-fn queue(random: &mut Random, [produce, consume]: [u32; 2]) -> Queue {
-    let mut queue = Queue {
+/// A queue of a produce and a consume, with a threshold of the consume and at most so much more, and no capacity yet.
+pub fn bare(random: &mut Random, [produce, consume]: [u32; 2], more: u32) -> Queue {
+    Queue {
         produce,
-        threshold: consume + within(random, 0..=MOST_TOKENS),
+        threshold: consume + within(random, 0..=more),
         consume,
         capacity: 0,
         reserved: 0,
-    };
+    }
+}
+
+/// A queue of a produce and a consume, with a capacity of 0, around the minimum, or above it.
+fn queue(random: &mut Random, pair: [u32; 2]) -> Queue {
+    let mut queue = bare(random, pair, MOST_TOKENS);
     let minimum = minimum(&queue);
     queue.capacity = match random.below(6) {
         0 | 1 => 0,

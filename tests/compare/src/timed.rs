@@ -5,6 +5,7 @@ use crate::chains::within;
 use crate::loaded::load;
 use crate::random::Random;
 use crate::rates::{minimum, Rate};
+use crate::small::bare;
 use std::ops::RangeInclusive;
 use yardstick::{analyse, Chain, Queue, CAPACITY};
 
@@ -100,14 +101,8 @@ fn slow_pair(random: &mut Random, rate: Rate, ticks: u64) -> [u32; 2] {
 }
 
 /// A queue of a produce and a consume with a capacity of 0, of the minimum, or above it.
-pub fn roomy(random: &mut Random, [produce, consume]: [u32; 2]) -> Queue {
-    let mut queue = Queue {
-        produce,
-        threshold: consume + within(random, 0..=MOST_TOKENS),
-        consume,
-        capacity: 0,
-        reserved: 0,
-    };
+pub fn roomy(random: &mut Random, pair: [u32; 2]) -> Queue {
+    let mut queue = bare(random, pair, MOST_TOKENS);
     let minimum = minimum(&queue);
     queue.capacity = match random.below(6) {
         0 | 1 => 0,

@@ -21,23 +21,14 @@ cast-n c = search needs
 loop-holds : tie.Need-loop-holds Inv-loop μ-loop
 loop-holds c = search needs
 
-add-if1 : tie.Need-add-if1 Inv-loop μ-loop
-add-if1 c = search needs
-
 mul-if1 : tie.Need-mul-if1 Inv-loop μ-loop
 mul-if1 c = search needs
 
 element-copy-out-if1 : tie.Need-element-copy-out-if1 Inv-loop μ-loop
 element-copy-out-if1 c = search needs
 
-add-if1-2 : tie.Need-add-if1-2 Inv-loop μ-loop
-add-if1-2 c = search needs
-
-mul-if1-2 : tie.Need-mul-if1-2 Inv-loop μ-loop
-mul-if1-2 c = search needs
-
-element-copy-out-if1-2 : tie.Need-element-copy-out-if1-2 Inv-loop μ-loop
-element-copy-out-if1-2 c = search needs
+add-if2 : tie.Need-add-if2 Inv-loop μ-loop
+add-if2 c = search needs
 
 mul-if2 : tie.Need-mul-if2 Inv-loop μ-loop
 mul-if2 c = search needs
@@ -45,11 +36,20 @@ mul-if2 c = search needs
 element-copy-out-if2 : tie.Need-element-copy-out-if2 Inv-loop μ-loop
 element-copy-out-if2 c = search needs
 
+add-if2-2 : tie.Need-add-if2-2 Inv-loop μ-loop
+add-if2-2 c = search needs
+
+mul-if2-2 : tie.Need-mul-if2-2 Inv-loop μ-loop
+mul-if2-2 c = search needs
+
+element-copy-out-if2-2 : tie.Need-element-copy-out-if2-2 Inv-loop μ-loop
+element-copy-out-if2-2 c = search needs
+
 add-result : tie.Need-add-result Inv-loop μ-loop
 add-result c = search needs
 
 returns : tie.Need-returns Inv-loop μ-loop
-returns c = looked-found (c .before .before .before .before .before .before .loop .inv) (c .before .before .before .before .before .loop-test .taken) (c .before .before .if1 .taken) (c .if2 .taken)
+returns c = looked-found (c .before .before .before .before .before .before .loop .inv) (c .before .before .before .before .before .loop-test .taken) (c .if2 .taken) (c .before .before .before .if1 .taken)
 
 add-j : tie.Need-add-j Inv-loop μ-loop
 add-j c = search needs
@@ -58,7 +58,7 @@ loop-less : tie.Need-loop-less Inv-loop μ-loop
 loop-less c = search needs
 
 loop-again : tie.Need-loop-again Inv-loop μ-loop
-loop-again c = ⊎-elim (λ w. looked-dated (c .before .before .before .before .loop .inv) (c .before .before .before .loop-test .taken) (w .2 .left)) (λ w. looked-rests (c .before .before .before .before .loop .inv) (c .before .before .before .loop-test .taken) (w .left)) (c .if1 .came)
+loop-again c = ⊎-elim (λ w. looked-rests (c .before .before .before .loop .inv) (c .before .before .loop-test .taken) (w .3 .left)) (λ w. looked-dated (c .before .before .before .loop .inv) (c .before .before .loop-test .taken) (w .left)) (c .if1 .came)
 
 returns-2 : tie.Need-returns-2 Inv-loop μ-loop
 returns-2 c = looked-end (c .before .loop .inv) (c .loop-test .left)
@@ -72,14 +72,14 @@ lacking-spec =
     element-copy-out-n
     cast-n
     loop-holds
-    add-if1
     mul-if1
     element-copy-out-if1
-    add-if1-2
-    mul-if1-2
-    element-copy-out-if1-2
+    add-if2
     mul-if2
     element-copy-out-if2
+    add-if2-2
+    mul-if2-2
+    element-copy-out-if2-2
     add-result
     returns
     add-j
