@@ -16,11 +16,10 @@ use Rattle.chain.specs.declared.Refusal.{Refusal}
 use Rattle.chain.specs.declared.Chain.{Chain}
 use Rattle.rates.specs.Load.{capped}
 use Rattle.rates.specs.declared.Rate.{Rate}
-use Rattle.sizing.specs.Sizes.{minimumOf, sizeBy, sized}
+use Rattle.sizing.specs.Sizes.{minimumOf, sizeBy, sized-said}
 use Rattle.sizing.specs.Checks.{tooLarge, sizeChecks, capacityTest, capacityCheck, short-alike}
 use Rattle.sizing.specs.Plan.{roomBy, shortAt, DrawnGives, Drawn, drawn-none, drawn-more, drawn-plans}
 use Rattle.sizing.specs.declared.Analysis.{Analysis}
-use Rattle.sizing.specs.declared.AnalysisAnswer.{AnalysisAnswer}
 use Rattle.sizing.specs.declared.Room.{Room}
 use Rattle.sizing.proofs.Walk.{Walked, Turn, filled, walk-none, walk-more, walk-too-large, walk-over, walk-end}
 
@@ -33,11 +32,6 @@ pub record Drawing (c : Chain) (i x y busy : ℕ) (s : Refusal) (l : List ℕ) :
 -- a walk, whatever lines were made on it
 bare : {c : Chain} {i x y busy : ℕ} {a : Analysis} → Walked c i x y busy a → Walked c i x y busy (filled c i)
 bare w = record { within = w .within; firings = w .firings; ticks = w .ticks; load = w .load; fits = w .fits; rates = w .rates; known = refl }
-
--- what an answer with an analysis says
-said : {a : AnalysisAnswer} (r : Refusal) (c : Chain) → a ≡ sized r c → refused (a .number) (a .place) ≡ r
-unfolding sized
-said r c e = ap (λ (b : AnalysisAnswer). refused (b .number) (b .place)) e
 
 -- 8 with one queue more
 short-more : (w : ℕ → Bool) (i : ℕ) → orElse (first (tab i (λ j. test 8 j (w j)))) (test 8 i (w i)) ≡ first (tab (i + 1) (λ j. test 8 j (w j)))
@@ -65,7 +59,7 @@ module _ (c : Chain) (s : Sound c) where
   -- the way out at 6
   pub drawing-stops : {i x y busy : ℕ} {o : Refusal} {l : List ℕ} {r : Rate} → Drawing c i x y busy o l → Turn c i x y r → tooLarge (r .x) (r .y) ≡ true
       → DrawnGives c l (record { sizes = refused 6 (i + 1); short = fine })
-  drawing-stops d t over = record { sizes = said (first (sizeChecks c)) c (walk-too-large c s (d .walked) t over); short = λ z. absurd (omega (arith, z)); plans = λ z. absurd (omega (arith, z)) }
+  drawing-stops d t over = record { sizes = sized-said (first (sizeChecks c)) c (walk-too-large c s (d .walked) t over); short = λ z. absurd (omega (arith, z)); plans = λ z. absurd (omega (arith, z)) }
 
   -- the other way out, where 7 speaks or does not
   pub drawing-end : {i x y busy : ℕ} {o m : Refusal} {l : List ℕ} → Drawing c i x y busy o l → c .n ≤ i → m ≡ test 7 0 (ltb y busy) → DrawnGives c l (record { sizes = m; short = o })
@@ -77,5 +71,5 @@ module _ (c : Chain) (s : Sound c) where
   }
     where
       by : (b : Bool) → ltb y busy ≡ b → test 7 0 b ≡ first (sizeChecks c)
-      by true q = said (first (sizeChecks c)) c (walk-over c s (d .walked) h (ltb-true y busy q))
-      by false q = said (first (sizeChecks c)) c (walk-end c s (d .walked) h (ltb-false y busy q))
+      by true q = sized-said (first (sizeChecks c)) c (walk-over c s (d .walked) h (ltb-true y busy q))
+      by false q = sized-said (first (sizeChecks c)) c (walk-end c s (d .walked) h (ltb-false y busy q))

@@ -25,7 +25,7 @@ use Rattle.chain.specs.declared.Chain.{Chain}
 use Rattle.onequeue.specs.Capacity.{margin}
 use Rattle.sizing.specs.Nodes.{yOf}
 use Rattle.sizing.specs.Load.{busyOf, cycleOf}
-use Rattle.sizing.specs.Sizes.{sizeBy, sizeOf, analysisOf, sized, sized-fine, minimum-most, naming-most, capacity-most}
+use Rattle.sizing.specs.Sizes.{sizeBy, sizeOf, analysisOf, sized, sized-fine, sized-said, minimum-most, naming-most, capacity-most}
 use Rattle.sizing.specs.Checks.{limit, InLimit, Enough, sizeChecks, analyseChecks, analyseRefusal, analyseAnswer, runRefusal, runAnswer, capacityCheck, analyse-parts, run-parts, rates-silent, load-silent, capacity-silent}
 use Rattle.sizing.specs.declared.QueueSize.{QueueSize}
 use Rattle.sizing.specs.declared.AnalysisAnswer.{AnalysisAnswer}
@@ -66,8 +66,8 @@ run-accepts c =
 -- what code was answered that asked whether a chain may run
 module _ {a : AnalysisAnswer} (c : Chain) (e : a ≡ runAnswer c) where
   pub run-said : refused (a .number) (a .place) ≡ runRefusal c
-  unfolding runAnswer sized
-  run-said = ap (λ (b : AnalysisAnswer). refused (b .number) (b .place)) e
+  unfolding runAnswer
+  run-said = sized-said (runRefusal c) c e
 
   pub run-quiet : a .number ≡ 0 → Silent (runRefusal c)
   run-quiet z = silent-as run-said z

@@ -13,6 +13,7 @@
 --   sized r c                the answer of a call that makes an analysis: the refusal r, or the analysis where r is silent
 --   refusedWith N L          the answer that is all zero but for number and place, as each refused one is (sized-refused)
 --   sized-fine               an answer that is not refused
+--   sized-said               what such an answer says is the refusal that it was made of
 --   size-at                  what the analysis says of queue i
 --   minimum-, naming-, capacity-most
 --                            how large the numbers of a sound queue's line can be
@@ -28,7 +29,7 @@ use lib.IntN.{ℤ, pos}
 use borrow.Author.Tests.{ne-eqb}
 use Rattle.words.specs.Table.{tab, slots, slot-used}
 use Rattle.words.specs.declared.Queue.{Queue}
-use Rattle.chain.specs.Refusals.{fine, Silent}
+use Rattle.chain.specs.Refusals.{refused, fine, Silent}
 use Rattle.chain.specs.Record.{rowOf}
 use Rattle.chain.specs.Sound.{SoundRow}
 use Rattle.chain.specs.declared.Refusal.{Refusal}
@@ -121,6 +122,10 @@ sized-refused r c h = simp (ne-eqb _ _ h)
 pub sized-fine : {r : Refusal} (c : Chain) → fine ≡ r → record { number = 0; place = 0; analysis = analysisOf c } ≡ sized r c
 unfolding sized
 sized-fine c e = rw (← e)
+
+pub sized-said : {a : AnalysisAnswer} (r : Refusal) (c : Chain) → a ≡ sized r c → refused (a .number) (a .place) ≡ r
+unfolding sized
+sized-said r c e = ap (λ (b : AnalysisAnswer). refused (b .number) (b .place)) e
 
 pub size-at : (c : Chain) (i : ℕ) → c .n ≤ 16 → i < c .n → getD (analysisOf c .queues) i noSize ≡ sizeOf c i
 unfolding analysisOf

@@ -3,6 +3,7 @@ use mathlib.Core.Path.{_≡_, refl, sym, ap, _∙_}
 use mathlib.Core.List.{List}
 use Prim.Native.Nat.{ℕ, _≤_, _<_}
 use native.Mathlib.Omega.{arith}
+use Rattle.chain.specs.Faults.{Few}
 use Rattle.chain.specs.Refusals.{refused, orElse, Silent, silent-as, or-left, or-right}
 use Rattle.chain.specs.declared.Refusal.{Refusal}
 use Rattle.chain.specs.declared.Chain.{Chain}
@@ -17,10 +18,10 @@ use Rattle.instants.specs.Refusals.{ranAs, refusedAs, tick-parts, tick-ran, tic
 use Rattle.instants.specs.Fresh.{run-is-ticks}
 use Rattle.instants.specs.declared.TickAnswer.{TickAnswer}
 use Rattle.ticks.specs.Left.{refusedWith}
-use Rattle.ticks.specs.Runs.{Few, TickAsk, RunAsk}
+use Rattle.ticks.specs.Runs.{TickAsk, RunAsk}
 
 -- the number of queues of a chain that may run
-pub few : {c : Chain} {p : List ℕ} {w : Refusal} → RunPlans c p w → Silent w → Few c
+pub few : {c : Chain} {p : List ℕ} {w : Refusal} → RunPlans c p w → Silent w → Few (c .n)
 few e z = record { few = planned-run e z .chain .count .1 }
 
 -- a tick

@@ -1,5 +1,4 @@
 -- What the code of a tick and of a deadline run asks and gives.
---   Few c                    the chain has at most 16 queues
 --   TickAsk c l s            no check refuses the tick, and l is the chain's plan
 --   RunAsk c l T             no check refuses the run
 --   KeepsAll d c s           the deadline of every node's next firing is kept
@@ -22,10 +21,6 @@ use Rattle.instants.specs.Checks.{longest}
 use Rattle.instants.specs.Refusals.{Ticking}
 use Rattle.steps.specs.Lent.{outcomeAs}
 use Rattle.ticks.specs.declared.Ended.{Ended}
-
--- the chain has at most 16 queues
-pub record Few (c : Chain) : Type 0 where
-  pub few : c .n ≤ 16
 
 -- no check refuses the tick
 pub record TickAsk (c : Chain) (l : List ℕ) (s : Run) : Type 0 where

@@ -3,13 +3,14 @@
 ghost use mathlib.Core.Path.{_≡_};
 ghost use Prim.Native.Nat.{_≤_};
 ghost use Rattle.chain.specs.Refusals.{orElse};
+ghost use Rattle.chain.specs.Faults.{Few};
 ghost use Rattle.instants.specs.Checks.{clockCheck, spentCheck, tickAnswer, deadlineRunAnswer};
 ghost use Rattle.instants.specs.Steps.{tick, ticks};
 ghost use Rattle.instants.specs.Refusals.{ranAs};
 ghost use Rattle.state.specs.State.{freshRun};
 ghost use Rattle.steps.specs.Lent.{outcomeAs};
 ghost use Rattle.ticks.specs.Left.{refusedWith, leftBy};
-ghost use Rattle.ticks.specs.Runs.{Few, TickAsk, RunAsk, Lends, RanGives};
+ghost use Rattle.ticks.specs.Runs.{TickAsk, RunAsk, Lends, RanGives};
 use chain::Chain;
 use chain::Refusal;
 use flow::LENGTH;
@@ -85,7 +86,7 @@ fn refused(number: u32, place: u32, run: Run) -> TickAnswer
 
 // 9 of a tick: its clock is at the end of the longest run, or the lowest node's count that cannot grow.
 fn late_check(chain: Chain, run: Run) -> Refusal
-    requires { ⌜ Few chain ⌝ }
+    requires { ⌜ Few (chain .n) ⌝ }
     ensures { λ r. ⌜ r ≡ orElse (clockCheck run) (spentCheck chain run) ⌝ }
 {
     if LONGEST <= run.clock {
