@@ -1,7 +1,7 @@
 /*
  * ardenquill.h - the calls of the library ardenquill for C and C++: reading and writing chain files, the factory
- * chains, the analysis of a chain, the report on a chain file, manual firing, the immediate run, deadlines and the
- * deadline run.
+ * chains, the analysis of a chain, the report on a chain file, manual firing, the immediate run, deadlines, the tick
+ * and the deadline run.
  *
  * A chain has nodes N_0 (the source) to N_n (the sink), n from 1 to 16; queue i leads from N_i to N_(i+1).
  *
@@ -11,8 +11,9 @@
  * given. A call that is not refused gives number 0 and place 0.
  *
  * A length of 0 may come with any pointer; else the pointer must lead to that many bytes, which the call may
- * read (a file) or write (an out). A file and an out that are handed to one call must not overlap. No call
- * allocates memory or keeps anything between calls; calls on different memory may run at the same time.
+ * read (a file) or write (an out). A pointer to a chain or a run must lead to one. A file and an out that are handed
+ * to one call must not overlap, nor may a chain and a run. No call allocates memory or keeps anything between calls;
+ * calls on different memory may run at the same time.
  *
  * Library and header are one release: use them together. The library is x86-64 code.
  */
@@ -62,7 +63,8 @@ enum ardenquill_refusal {
     ARDENQUILL_BELOW_MINIMUM = 8,
     /* The run is too long. Manual firing: the node's count is 4,294,967,295 already; place: that node. An immediate
      * run: a node would fire more than 1,000,000 times; place: the lowest such node. A deadline run: it has more than
-     * 1,000,000 ticks; place 0. */
+     * 1,000,000 ticks; place 0. A tick: the clock is 1,000,000 or more; place 0; or a node's count is 4,294,967,295;
+     * place: the lowest such node. */
     ARDENQUILL_TOO_LONG = 9,
     /* The out handed in is shorter than what would be written. Place: the bytes needed. */
     ARDENQUILL_NO_ROOM = 10,
@@ -82,9 +84,9 @@ enum ardenquill_refusal {
     ARDENQUILL_BAD_RUN = 17
 };
 
-/* The kinds of outcome of a run, each with what its tick and its at say. None of them is a refusal. */
+/* The kinds of outcome of a tick or a run, each with what its tick and its at say. None of them is a refusal. */
 enum ardenquill_kind {
-    /* The run has gone to its end. Tick 0, at 0. */
+    /* The tick was made, or the run has gone to its end. Tick 0, at 0. */
     ARDENQUILL_CLEAN = 0,
     /* A production at instant tick would put more into queue at than its capacity in force. The state is that before
      * the production, and its clock is tick. */
@@ -148,10 +150,11 @@ struct ardenquill_analysis {
 };
 
 /* How far a run of a chain of n queues is. Only the first n slots of held and done and the first n+1 of counts are
- * looked at. A plain value: a call is handed one and gives the next, and keeps nothing of either. */
+ * looked at. A plain value: a call is handed one and gives the next, and keeps nothing of either; a tick is lent one
+ * and leaves the next in its place. */
 struct ardenquill_run {
-    /* The ticks that have passed. Manual firing leaves it alone; after an immediate run it is 0, after a deadline run
-     * the instant at which that ended. */
+    /* The ticks that have passed. Manual firing leaves it alone; a clean tick adds 1; after an immediate run it is 0,
+     * after a deadline run the instant at which that ended. */
     uint32_t clock;
     /* How often N_i has fired, in slot i; slot 0 is the source's. */
     uint32_t counts[ARDENQUILL_MAX_QUEUES + 1];
@@ -194,6 +197,14 @@ struct ardenquill_deadline_answer {
     uint32_t number, place;
     /* The tick that the firing is due at; 0 when the call was refused. */
     uint64_t due;
+};
+
+/* The answer of a tick. */
+struct ardenquill_outcome {
+    /* The refusal and its place; both 0 when the call was not refused, whatever the outcome. */
+    uint32_t number, place;
+    /* The outcome: its kind, its tick, and its queue or node; all 0 when the call was refused. */
+    uint32_t kind, tick, at;
 };
 
 /* The answer of a call that gives an outcome and the run state that it left. */
@@ -274,6 +285,18 @@ struct ardenquill_run_answer ardenquill_immediate(struct ardenquill_chain chain,
  * and so on down to the source. Refuses with 2, 4, 5, 6, 7, 8, 11, 13, in this order; the places of 4 and 5 are offsets
  * in the packed file. No run state is looked at: the node need not be able to fire. Writes nothing. */
 struct ardenquill_deadline_answer ardenquill_deadline(struct ardenquill_chain chain, uint32_t node, uint32_t index);
+
+/* Makes one tick of the run state that is lent, from the instant t that its clock says, and leaves the state after it
+ * in its place. The source fires if period divides t; then one node works for a tick, if there is one whose queue before
+ * it holds at least its threshold: of these the one whose next firing has the earliest deadline, of several such the
+ * one nearest the sink; work already done is kept while other nodes work. The clock goes to t + 1, and a firing that
+ * then has as many ticks of work as its node's execution time takes effect as ardenquill_fire says. Each outcome gives
+ * number 0 and place 0: see enum ardenquill_kind for the rest; where it is overflowed or no deadline, the state stays
+ * as it was. The slots past n of chain and state are not looked at and stay as they are. So many ticks from a fresh
+ * start are a deadline run.
+ * Refuses with 2, 4, 5, 6, 7, 8, 17, 9, in this order, and then leaves the state as it was, every slot; kind, tick and
+ * at are then 0. The places of 4 and 5 are offsets in the packed file. Writes nothing but the state. */
+struct ardenquill_outcome ardenquill_tick(const struct ardenquill_chain *chain, struct ardenquill_run *run);
 
 /* Makes a deadline run of so many ticks from a fresh start, and gives its outcome and the run state after it. At each
  * instant t from 0 on that is below ticks: a firing finished by then takes effect as ardenquill_fire says; then the

@@ -40,10 +40,6 @@
 
 #include "ardenquill.h"
 
-/* One tick by value, which is in an archive of its own. Refuses with 2, 4, 5, 6, 7, 8, 17, 9, in this order, and then
- * gives the state that was handed in. */
-struct ardenquill_outcome_run tickcall(struct ardenquill_chain chain, struct ardenquill_run run);
-
 /* The bytes that are shown of large memory. */
 #define FIRST ARDENQUILL_PACKED_LENGTH(ARDENQUILL_MAX_QUEUES)
 
@@ -250,12 +246,37 @@ static void answer_each_length(void)
     }
 }
 
+/* One tick of a state that is lent between words that no call may change. A change of these, or of the chain, ends the
+ * program. */
+static struct ardenquill_outcome_run tick(struct ardenquill_chain chain, struct ardenquill_run run)
+{
+    struct {
+        uint32_t before[16];
+        struct ardenquill_run run;
+        uint32_t behind[16];
+    } lent, left;
+    memset(&lent, 0xa5, sizeof lent);
+    lent.run = run;
+    left = lent;
+    struct ardenquill_chain handed = chain;
+    struct ardenquill_outcome outcome = ardenquill_tick(&handed, &left.run);
+    if (memcmp(&handed, &chain, sizeof chain) != 0)
+        give_up("a tick has changed its chain");
+    lent.run = left.run;
+    if (memcmp(&left, &lent, sizeof lent) != 0)
+        give_up("a tick has written beside the state that was lent");
+    struct ardenquill_outcome_run answer = {
+        outcome.number, outcome.place, outcome.kind, outcome.tick, outcome.at, left.run,
+    };
+    return answer;
+}
+
 /* Answers t. */
 static void answer_tick(void)
 {
     struct ardenquill_chain chain = take_chain();
     struct ardenquill_run run = take_run();
-    struct ardenquill_outcome_run answer = tickcall(chain, run);
+    struct ardenquill_outcome_run answer = tick(chain, run);
     put(&answer, sizeof answer);
 }
 
@@ -266,7 +287,7 @@ static void answer_ticks(void)
     struct ardenquill_run run = take_run();
     uint64_t length = take_length();
     for (uint64_t i = 0; i < length; i++) {
-        struct ardenquill_outcome_run answer = tickcall(chain, run);
+        struct ardenquill_outcome_run answer = tick(chain, run);
         put(&answer, sizeof answer);
         run = answer.run;
     }
@@ -281,7 +302,7 @@ static void answer_ticks_while_clean(void)
     last.run = take_run();
     uint64_t length = take_length();
     for (uint64_t i = 0; i < length && last.number == 0 && last.kind == ARDENQUILL_CLEAN; i++)
-        last = tickcall(chain, last.run);
+        last = tick(chain, last.run);
     put(&last, sizeof last);
 }
 

@@ -52,6 +52,12 @@
     OFFSET(ardenquill_deadline_answer, number, 0)     \
     OFFSET(ardenquill_deadline_answer, place, 4)      \
     OFFSET(ardenquill_deadline_answer, due, 8)        \
+    SIZE(ardenquill_outcome, 20)                      \
+    OFFSET(ardenquill_outcome, number, 0)             \
+    OFFSET(ardenquill_outcome, place, 4)              \
+    OFFSET(ardenquill_outcome, kind, 8)               \
+    OFFSET(ardenquill_outcome, tick, 12)              \
+    OFFSET(ardenquill_outcome, at, 16)                \
     SIZE(ardenquill_outcome_run, 220)                 \
     OFFSET(ardenquill_outcome_run, number, 0)         \
     OFFSET(ardenquill_outcome_run, place, 4)          \
@@ -464,6 +470,33 @@ static void check_deadline_run_refused(const char *what, struct ardenquill_chain
     check_run(what, got.run, run_of(0, 0, 0, 0, 0));
 }
 
+/* The answer of a clean tick. */
+static const struct ardenquill_outcome outcome_clean = {0, 0, ARDENQUILL_CLEAN, 0, 0};
+
+/* Lends a state to a tick as a controller does; checks the answer, and that the chain stays as it was. */
+static void check_lent(const char *what, struct ardenquill_chain chain, struct ardenquill_run *run,
+                       struct ardenquill_outcome due)
+{
+    struct ardenquill_chain lent = chain;
+    struct ardenquill_outcome got = ardenquill_tick(&lent, run);
+    check(got.number == due.number, "%s: number", what);
+    check(got.place == due.place, "%s: place", what);
+    check(got.kind == due.kind, "%s: kind", what);
+    check(got.tick == due.tick, "%s: tick", what);
+    check(got.at == due.at, "%s: at", what);
+    check(memcmp(&lent, &chain, sizeof chain) == 0, "%s: chain", what);
+}
+
+/* Checks that a tick is refused and that the state that was lent stays as it was. */
+static void check_tick_refused(const char *what, struct ardenquill_chain chain, struct ardenquill_run run,
+                               uint32_t number, uint32_t place)
+{
+    struct ardenquill_run lent = run;
+    struct ardenquill_outcome due = {number, place, 0, 0, 0};
+    check_lent(what, chain, &lent, due);
+    check_run(what, lent, run);
+}
+
 /* Checks a report that has less room, exact room and ample room, and that the file stays as it is. */
 static void check_report(const char *what, const uint8_t *file, size_t file_length, const char *text, size_t length)
 {
@@ -757,6 +790,7 @@ static void check_runs_refused(const char *what, struct ardenquill_chain chain, 
     check_deadline_answer(what, ardenquill_deadline(chain, UINT32_MAX, 0), number, place, 0);
     check_deadline_run_refused(what, chain, 1, number, place);
     check_deadline_run_refused(what, chain, UINT32_MAX, number, place);
+    check_tick_refused(what, chain, run, number, place);
 }
 
 /* Checks each number that all of them refuse a chain with. */
@@ -913,6 +947,77 @@ static void check_deadline_runs(void)
                   due);
 }
 
+/* Checks so many ticks of one lent state from a fresh start: each is clean and leaves what a run of as many leaves. */
+static void check_clean_ticks(const char *what, struct ardenquill_chain chain, struct ardenquill_run *run,
+                              uint32_t ticks)
+{
+    char name[64];
+    *run = ardenquill_fresh(chain).run;
+    for (uint32_t t = 1; t <= ticks; t++) {
+        snprintf(name, sizeof name, "%s, tick %lu", what, (unsigned long)t);
+        check_lent(name, chain, run, outcome_clean);
+        check_run(name, *run, ardenquill_deadline_run(chain, t).run);
+    }
+}
+
+/* Checks ticks that overflow or have no deadline: the state stays, and asked again the answer is the same. */
+static void check_stuck(const char *what, struct ardenquill_chain chain, struct ardenquill_run run,
+                        struct ardenquill_outcome due)
+{
+    struct ardenquill_run lent = run;
+    for (int i = 0; i < 2; i++) {
+        check_lent(what, chain, &lent, due);
+        check_run(what, lent, run);
+    }
+}
+
+/* Checks the ticks of Feed, of Feed with an execution time of 7 up to its overflow, and of a chain without a deadline. */
+static void check_ticks(void)
+{
+    const struct ardenquill_outcome overflowed = {0, 0, ARDENQUILL_OVERFLOWED, 40, 0};
+    const struct ardenquill_outcome no_deadline = {0, 0, ARDENQUILL_NO_DEADLINE, 4295, 2};
+    struct ardenquill_chain chain = chain_of(&feed);
+    struct ardenquill_run run;
+    check_clean_ticks("Feed", chain, &run, 34);
+    check_run("Feed, 34 ticks", run, feed_run(34, 4, 4, 4, 0));
+    chain.work[0] = 7;
+    check_clean_ticks("Feed with 7", chain, &run, 40);
+    check_stuck("Feed with 7, overflow", chain, run, overflowed);
+    chain = chain_of(&far_ahead);
+    check_stuck("no deadline", chain, ardenquill_deadline_run(chain, 4296).run, no_deadline);
+}
+
+/* Checks what a tick refuses, in its order, and that slots past n are neither looked at nor changed. */
+static void check_tick_refusals(void)
+{
+    const uint32_t last = UINT32_MAX;
+    struct ardenquill_chain chain = chain_of(&feed);
+    struct ardenquill_run run = feed_run(1000000, 2, 0, 7, 2);
+    check_tick_refused("a token lost, late", chain, run, ARDENQUILL_BAD_RUN, 0);
+    run.held[0] = 8;
+    check_tick_refused("work done, late", chain, run, ARDENQUILL_BAD_RUN, 0);
+    run.done[0] = 1;
+    check_tick_refused("late", chain, run, ARDENQUILL_TOO_LONG, 0);
+    run.clock = last;
+    check_tick_refused("far too late", chain, run, ARDENQUILL_TOO_LONG, 0);
+    check_tick_refused("capacity below minimum", chain_of(&roomy), run, ARDENQUILL_BELOW_MINIMUM, 1);
+    chain = chain_of(&even);
+    check_tick_refused("source's last", chain, run_of(last, last, last - 1, 0, 7), ARDENQUILL_TOO_LONG, 0);
+    check_tick_refused("first node's last", chain, run_of(last - 1, last, last - 2, 0, 14), ARDENQUILL_BAD_RUN, 0);
+
+    chain = chain_of(&feed);
+    memset(&chain.queues[1], UNTOUCHED, sizeof chain.queues[1]);
+    memset(&run, UNTOUCHED, sizeof run);
+    run.clock = 10;
+    run.counts[0] = run.counts[1] = run.held[0] = run.done[0] = 0;
+    struct ardenquill_run due = run;
+    due.clock = 11;
+    due.counts[0] = 1;
+    due.held[0] = 4;
+    check_lent("garbage past n", chain, &run, outcome_clean);
+    check_run("garbage past n", run, due);
+}
+
 /* Fires a node as a user does: the state becomes the one that the call gives. */
 static void check_fire(const char *what, struct ardenquill_chain chain, struct ardenquill_run *run, uint32_t node,
                        struct ardenquill_run due)
@@ -1057,6 +1162,8 @@ int main(void)
     check_deadlines();
     check_paper_runs();
     check_deadline_runs();
+    check_ticks();
+    check_tick_refusals();
     check_walks();
     check_untouched_slots();
     check_damaged();

@@ -9,8 +9,8 @@ ghost use Rattle.ardenquill.specs.Reports.{reportText, reportRefusal};
 ghost use Rattle.ardenquill.specs.Runs.{freshAnswer, fireAnswer};
 ghost use Rattle.ardenquill.specs.Immediate.{immediateAnswer};
 ghost use Rattle.ardenquill.specs.Deadlines.{deadlineAnswer};
-ghost use Rattle.ardenquill.specs.Ticks.{kindOf, tickOf, atOf, deadlineRunAnswer};
-ghost use Rattle.ardenquill.specs.Flat.{flat};
+ghost use Rattle.ardenquill.specs.Ticks.{kindOf, tickOf, atOf, tickAnswer, deadlineRunAnswer};
+ghost use Rattle.ardenquill.specs.Flat.{coded, flat};
 pub use chain::Chain;
 pub use chain::ChainAnswer;
 pub use chain::Queue;
@@ -38,7 +38,17 @@ pub use state::fresh;
 pub use ticks::deadline_run;
 pub use ticks::tick;
 
-// An answer of a tick or a deadline run for C: the refusal, and how it ended as a code with the tick and the queue or node.
+// The answer of a tick for C: the refusal, and how it ended as a code with the tick and the queue or node.
+#[repr(C)]
+pub struct OutcomeAnswer {
+    pub number: u32,
+    pub place: u32,
+    pub kind: u32,
+    pub tick: u32,
+    pub at: u32,
+}
+
+// The answer of a deadline run for C: the same, and the state that it left.
 #[repr(C)]
 pub struct OutcomeRun {
     pub number: u32,
@@ -123,6 +133,17 @@ pub extern "C" fn ardenquill_deadline(chain: Chain, node: u32, index: u32) -> De
     deadline(chain, node, index)
 }
 
+// One tick of the state that the controller lends: how it ended, the state being the one after it; or the first of 2, 4, 5, 6,
+// 7, 8, 17 and 9 that refuses it, the state being as it was.
+#[no_mangle]
+pub extern "C" fn ardenquill_tick(chain: &Chain, run: &mut Run) -> OutcomeAnswer
+    ensures { λ r. ⌜ (now (run .exit) ≡ tickAnswer (now (chain .entry)) (now (run .entry)) .run) × (r ≡ coded (tickAnswer (now (chain .entry)) (now (run .entry)))) ⌝ }
+{
+    let answer = tick(*chain, *run);
+    *run = answer.run;
+    coded(answer)
+}
+
 // How a deadline run of so many ticks from a fresh start ended and the state that it left, or the first of 2, 4, 5, 6, 7, 8
 // and 9 that refuses it.
 #[no_mangle]
@@ -132,18 +153,32 @@ pub extern "C" fn ardenquill_deadline_run(chain: Chain, ticks: u32) -> OutcomeRu
     flattened(deadline_run(chain, ticks))
 }
 
-// An answer as C has it.
-pub fn flattened(answer: TickAnswer) -> OutcomeRun
-    ensures { λ r. ⌜ r ≡ flat answer ⌝ }
+// An answer as C has it, without its state.
+fn coded(answer: TickAnswer) -> OutcomeAnswer
+    ensures { λ r. ⌜ r ≡ coded answer ⌝ }
 {
     let outcome = answer.outcome;
-    let run = answer.run;
-    OutcomeRun {
+    OutcomeAnswer {
         number: answer.number,
         place: answer.place,
         kind: kind_of(outcome),
         tick: tick_of(outcome),
         at: at_of(outcome),
+    }
+}
+
+// An answer as C has it, with its state.
+fn flattened(answer: TickAnswer) -> OutcomeRun
+    ensures { λ r. ⌜ r ≡ flat answer ⌝ }
+{
+    let run = answer.run;
+    let code = coded(answer);
+    OutcomeRun {
+        number: code.number,
+        place: code.place,
+        kind: code.kind,
+        tick: code.tick,
+        at: code.at,
         run: run,
     }
 }
