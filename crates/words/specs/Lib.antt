@@ -3,3 +3,4 @@ pub mod Flat
 pub mod Table
 pub mod Words
 pub mod Rows
+pub mod Reader

@@ -6,6 +6,7 @@ ghost use Prim.Native.Nat.{_+_, _*_, _/_, _%_};
 ghost use Rattle.words.specs.Put.{Room, Puts};
 ghost use Rattle.words.specs.Words.{bytesOf, fourAt, wordAt};
 ghost use Rattle.words.specs.Rows.{row, rowAt};
+ghost use Rattle.words.specs.Reader.{moved};
 
 // A queue row: produce, threshold and consume of 01, the capacity B and the reserved word.
 #[repr(C)]
@@ -15,6 +16,12 @@ pub struct Queue {
     pub consume: u32,
     pub capacity: u32,
     pub reserved: u32,
+}
+
+// A reader on the caller's own bytes: it borrows them, copies none, and keeps the place that it has come to.
+pub struct ChainReader<'a> {
+    pub bytes: &'a [u8],
+    pub at: usize,
 }
 
 // The row of a slot that no queue has.
@@ -38,7 +45,7 @@ pub fn word_of(bytes: &[u8], at: usize) -> u32
     if n - 4 < at {
         return 0;
     }
-    word(bytes, at)
+    word_from(bytes, at)
 }
 
 // The queue row whose first byte stands at `at`, or no row where it would pass the end.
@@ -52,18 +59,7 @@ pub fn row_of(bytes: &[u8], at: usize) -> Queue
     if n - 20 < at {
         return NONE;
     }
-    let produce = word(bytes, at);
-    let threshold = word(bytes, at + 4);
-    let consume = word(bytes, at + 8);
-    let capacity = word(bytes, at + 12);
-    let reserved = word(bytes, at + 16);
-    Queue {
-        produce: produce,
-        threshold: threshold,
-        consume: consume,
-        capacity: capacity,
-        reserved: reserved,
-    }
+    row_from(bytes, at)
 }
 
 // Writes a word at `at`, and answers the place behind it.
@@ -88,6 +84,53 @@ pub fn put_row(out: &mut [u8], at: usize, q: Queue) -> usize
     let c = put_word(out, b, q.consume);
     let d = put_word(out, c, q.capacity);
     put_word(out, d, q.reserved)
+}
+
+// A reader at a place of the bytes.
+fn seek<'a>(bytes: &'a [u8], at: usize) -> ChainReader<'a>
+    ensures { λ r. ⌜ (r .bytes ≡ bytes .entry) × (r .at ≡ at) ⌝ }
+{
+    ChainReader { bytes, at }
+}
+
+// The word at the reader's place; the reader moves on behind it.
+fn take<'s, 'a>(reader: &'s mut ChainReader<'a>) -> u32
+    requires { ⌜ Room (now (now reader .bytes)) (now reader .at) 4 ⌝ }
+    ensures { λ w. ⌜ (w ≡ fourAt (now (now (reader .entry) .bytes)) (now (reader .entry) .at)) × (now (reader .exit) ≡ moved (now (reader .entry))) ⌝ }
+{
+    let at = reader.at;
+    let w = word(reader.bytes, at);
+    reader.at = at + 4;
+    w
+}
+
+// The word at a place where it is.
+fn word_from(bytes: &[u8], at: usize) -> u32
+    requires { ⌜ Room (now bytes) at 4 ⌝ }
+    ensures { λ r. ⌜ r ≡ fourAt (now (bytes .entry)) at ⌝ }
+{
+    let mut reader = seek(bytes, at);
+    take(&mut reader)
+}
+
+// The row at a place where it is: one reader takes its five words.
+fn row_from(bytes: &[u8], at: usize) -> Queue
+    requires { ⌜ Room (now bytes) at 20 ⌝ }
+    ensures { λ r. ⌜ r ≡ rowAt (now (bytes .entry)) at ⌝ }
+{
+    let mut reader = seek(bytes, at);
+    let produce = take(&mut reader);
+    let threshold = take(&mut reader);
+    let consume = take(&mut reader);
+    let capacity = take(&mut reader);
+    let reserved = take(&mut reader);
+    Queue {
+        produce,
+        threshold,
+        consume,
+        capacity,
+        reserved,
+    }
 }
 
 // The word at a place where its four bytes are.

@@ -12,11 +12,11 @@ returns c = sym (word-past _ _ (omega arith))
 returns-2 : tie.Need-returns-2
 returns-2 c = sym (word-past _ _ (omega arith))
 
-word-requires : tie.Need-word-requires
-word-requires c κs = search needs
+word-from-requires : tie.Need-word-from-requires
+word-from-requires c κs = search needs
 
 returns-3 : tie.Need-returns-3
-returns-3 c = c .word .ensures ∙ sym (word-there _ _ (omega arith))
+returns-3 c = c .word-from .ensures ∙ sym (word-there _ _ (omega arith))
 
 pub word-of-spec : {M : Type 1} → statement M
-word-of-spec = tie.close (tie.spec returns returns-2 word-requires returns-3)
+word-of-spec = tie.close (tie.spec returns returns-2 word-from-requires returns-3)
