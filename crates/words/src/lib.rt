@@ -1,5 +1,5 @@
-// Little-endian words of 32 bits on the caller's own bytes: a word, or a queue row of five, read at any place of any
-// bytes, and written at a place that has room. Nothing else in the library looks at a byte of a chain file.
+// Little-endian words of 32 bits on the caller's own bytes: a word, or a queue row of five, read at any place of them by
+// a reader that keeps its place, and written where there is room. Nothing else looks at a byte of a chain file.
 ghost use mathlib.Core.Path.{_≡_};
 ghost use mathlib.Core.List.{_∷_, []};
 ghost use Prim.Native.Nat.{_+_, _*_, _/_, _%_};
@@ -62,6 +62,25 @@ pub fn row_of(bytes: &[u8], at: usize) -> Queue
     row_from(bytes, at)
 }
 
+// A reader at a place of the bytes.
+pub fn seek<'a>(bytes: &'a [u8], at: usize) -> ChainReader<'a>
+    ensures { λ r. ⌜ (r .bytes ≡ bytes .entry) × (r .at ≡ at) ⌝ }
+{
+    ChainReader { bytes, at }
+}
+
+// The word at the reader's place; the reader moves on behind it.
+pub fn take<'s, 'a>(reader: &'s mut ChainReader<'a>) -> u32
+    requires { ⌜ Room (now (now reader .bytes)) (now reader .at) 4 ⌝ }
+    ensures { λ w. ⌜ (w ≡ fourAt (now (now (reader .entry) .bytes)) (now (reader .entry) .at))
+        × (now (reader .exit) ≡ moved (now (reader .entry))) ⌝ }
+{
+    let at = reader.at;
+    let w = word(reader.bytes, at);
+    reader.at = at + 4;
+    w
+}
+
 // Writes a word at `at`, and answers the place behind it.
 pub fn put_word(out: &mut [u8], at: usize, w: u32) -> usize
     requires { ⌜ Room (now out) at 4 ⌝ }
@@ -86,25 +105,7 @@ pub fn put_row(out: &mut [u8], at: usize, q: Queue) -> usize
     put_word(out, d, q.reserved)
 }
 
-// A reader at a place of the bytes.
-fn seek<'a>(bytes: &'a [u8], at: usize) -> ChainReader<'a>
-    ensures { λ r. ⌜ (r .bytes ≡ bytes .entry) × (r .at ≡ at) ⌝ }
-{
-    ChainReader { bytes, at }
-}
-
-// The word at the reader's place; the reader moves on behind it.
-fn take<'s, 'a>(reader: &'s mut ChainReader<'a>) -> u32
-    requires { ⌜ Room (now (now reader .bytes)) (now reader .at) 4 ⌝ }
-    ensures { λ w. ⌜ (w ≡ fourAt (now (now (reader .entry) .bytes)) (now (reader .entry) .at)) × (now (reader .exit) ≡ moved (now (reader .entry))) ⌝ }
-{
-    let at = reader.at;
-    let w = word(reader.bytes, at);
-    reader.at = at + 4;
-    w
-}
-
-// The word at a place where it is.
+// The word at a place where it is, taken by a reader.
 fn word_from(bytes: &[u8], at: usize) -> u32
     requires { ⌜ Room (now bytes) at 4 ⌝ }
     ensures { λ r. ⌜ r ≡ fourAt (now (bytes .entry)) at ⌝ }
@@ -113,7 +114,7 @@ fn word_from(bytes: &[u8], at: usize) -> u32
     take(&mut reader)
 }
 
-// The row at a place where it is: one reader takes its five words.
+// The row at a place where it is: one reader takes its five words, each from behind the one before.
 fn row_from(bytes: &[u8], at: usize) -> Queue
     requires { ⌜ Room (now bytes) at 20 ⌝ }
     ensures { λ r. ⌜ r ≡ rowAt (now (bytes .entry)) at ⌝ }
@@ -133,7 +134,7 @@ fn row_from(bytes: &[u8], at: usize) -> Queue
     }
 }
 
-// The word at a place where its four bytes are.
+// The word that four bytes make, where they are: no other function reads a byte.
 fn word(bytes: &[u8], at: usize) -> u32
     requires { ⌜ Room (now bytes) at 4 ⌝ }
     ensures { λ r. ⌜ r ≡ fourAt (now (bytes .entry)) at ⌝ }
