@@ -1,5 +1,4 @@
 -- `words::row_from` meets its contract: a walk of its MIR, by hand. One reader stands in a local, and is lent to `take` for each of the row's five words, which moves it on. All that the proof knows of `seek` and of `take` is that each meets its contract.
--- In a local of a body MIR erases the lifetime of the struct's type, so the reader's value is shown to have the type at `erased`: what the struct owns does not say the lifetime's name.
 -- Assumes nothing.
 use mathlib.Core.Path.{_≡_, refl, ap, _∙_}
 use Prim.Native.Nat.{ℕ, _+_, _≤_, _<_, _^_}
