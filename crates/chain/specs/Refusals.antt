@@ -9,6 +9,7 @@
 --   Lowest g n N L           the first of g 0, .. g (n - 1) that speaks says N at L
 --   Only N r, Numbered Ns rs a check speaks with no number but N; each check of a list with none but its own
 --   absent, distinct         a number stands in no list; no number of a list is 0 or stands twice
+--   Others N Ns              N is none of the numbers, of which each is to be shown
 --   number-of, silent-as     equal refusals have equal numbers, and are silent together
 --   or-left, -right, -both   the cases of orElse, as code has them
 --   or-silents, or-says      what orElse says, from what its two checks say
@@ -22,6 +23,7 @@
 --   only-test, -fine, -or, -map, -tab
 --                            what keeps to one number
 --   exact-at                 a list says the number of its check k at L exactly when the checks before it are silent and it says so
+--   earlier                  a list says a number that its last checks do not have exactly when the checks before these say it
 use mathlib.Core.Path.{_≡_, refl, sym, ap, ap₂, _∙_}
 use mathlib.Core.Bool.{Bool, true, false, cond, not, _&&_, true≢false}
 use mathlib.Core.Logic.{_↔_, _≢_, _⊎_, inl, inr, ⊎-elim, Iff·trans, Iff·and, Iff·rfl, by-cases}
@@ -241,6 +243,11 @@ abbrev pub distinct : List ℕ → Bool
 distinct [] = true
 distinct (N ∷ Ns) = absent N (0 ∷ Ns) && distinct Ns
 
+-- N is none of the numbers
+abbrev pub Others : ℕ → List ℕ → Type 0
+Others N [] = Unit
+Others N (M ∷ Ms) = (M ≢ N) × Others N Ms
+
 both : (a b : Bool) → T (a && b) → T a × T b
 both true b h = (tt, h)
 both false b h = absurd h
@@ -248,10 +255,14 @@ both false b h = absurd h
 unlike : (M N : ℕ) → T (not (eqb M N)) → M ≢ N
 unlike M N h e = T-not (eqb M N) h (rw (eq-eqb M N e) tt)
 
-absent-at : (N : ℕ) (Ns : List ℕ) → T (absent N Ns) → (k : ℕ) → k < length Ns → getD Ns k 0 ≢ N
-absent-at N [] h k l = absurd (not-suc-le-zero l)
-absent-at N (M ∷ Ms) h zero l = unlike M N (both (not (eqb M N)) (absent N Ms) h .0)
-absent-at N (M ∷ Ms) h (suc k) l = absent-at N Ms (both (not (eqb M N)) (absent N Ms) h .1) k (omega arith)
+others : (N : ℕ) (Ns : List ℕ) → T (absent N Ns) → Others N Ns
+others N [] h = tt
+others N (M ∷ Ms) h = let g = both (not (eqb M N)) (absent N Ms) h in (unlike M N (g .0), others N Ms (g .1))
+
+others-at : (N : ℕ) (Ns : List ℕ) → Others N Ns → (k : ℕ) → k < length Ns → getD Ns k 0 ≢ N
+others-at N [] h k l = absurd (not-suc-le-zero l)
+others-at N (M ∷ Ms) h zero l = h .0
+others-at N (M ∷ Ms) h (suc k) l = others-at N Ms (h .1) k (omega arith)
 
 distinct-at : (Ns : List ℕ) → T (distinct Ns) → (k : ℕ) → k < length Ns → getD Ns k 0 ≢ 0
 distinct-at [] d k l = absurd (not-suc-le-zero l)
@@ -266,16 +277,18 @@ numbered-length (N ∷ Ns) [] o = absurd o
 numbered-length (N ∷ Ns) (r ∷ rs) o = ap suc (numbered-length Ns rs (o .1))
 
 -- a list that speaks does so with one of its numbers
-speaks-numbered : (N : ℕ) → N ≢ 0 → (Ns : List ℕ) (rs : List Refusal) → Numbered Ns rs → T (absent N Ns) → first rs .number ≢ N
+speaks-numbered : (N : ℕ) → N ≢ 0 → (Ns : List ℕ) (rs : List Refusal) → Numbered Ns rs → Others N Ns → first rs .number ≢ N
 unfolding first Numbered
 speaks-numbered N some [] [] o a e = some (sym e)
 speaks-numbered N some [] (r ∷ rs) o a e = o
 speaks-numbered N some (M ∷ Ms) [] o a e = o
-speaks-numbered N some (M ∷ Ms) (r ∷ rs) o a e =
-    let h = both (not (eqb M N)) (absent N Ms) a in
-    speaks? r
-    (λ z. speaks-numbered N some Ms rs (o .1) (h .1) (sym (number-of (or-silent r (first rs) z)) ∙ e))
-    (λ n. unlike M N (h .0) (sym (o .0 n) ∙ sym (number-of (or-speaks r (first rs) n)) ∙ e))
+speaks-numbered N some (M ∷ Ms) (r ∷ rs) o a e = speaks? r
+    (λ z. speaks-numbered N some Ms rs (o .1) (a .1) (sym (number-of (or-silent r (first rs) z)) ∙ e))
+    (λ n. a .0 (sym (o .0 n) ∙ sym (number-of (or-speaks r (first rs) n)) ∙ e))
+
+-- checks behind others have no number but their own, so every other number is said exactly when the others say it
+pub earlier : (N L : ℕ) → N ≢ 0 → (ps : List Refusal) (Ns : List ℕ) (rs : List Refusal) → Numbered Ns rs → Others N Ns → (first (ps ++ rs) ≡ refused N L) ↔ (first ps ≡ refused N L)
+earlier N L some ps Ns rs o a = rw (first-append ps rs) (Iff·trans (or-says N L some (first ps) (first rs)) (⊎-elim (λ e. e) (λ s. absurd (speaks-numbered N some Ns rs o a (number-of (s .1)))), inl))
 
 -- a list of checks says the number of its check k at L exactly when the checks before that one are silent and it says so
 pub exact-at : (Ns : List ℕ) (rs : List Refusal) → Numbered Ns rs → T (distinct Ns) → (k L : ℕ) → k < length rs → (first rs ≡ refused (getD Ns k 0) L) ↔ (Silents (take k rs) × (getD rs k fine ≡ refused (getD Ns k 0) L))
@@ -284,17 +297,17 @@ exact-at Ns [] o d k L l = absurd (not-suc-le-zero l)
 exact-at [] (r ∷ rs) o d k L l = absurd o
 exact-at (N ∷ Ns) (r ∷ rs) o d zero L l =
     let some = distinct-at (N ∷ Ns) d 0 (omega arith) in
-    let later = both (not (eqb 0 N)) (absent N Ns) (both (absent N (0 ∷ Ns)) (distinct Ns) d .0) .1 in
+    let later = others N Ns (both (not (eqb 0 N)) (absent N Ns) (both (absent N (0 ∷ Ns)) (distinct Ns) d .0) .1) in
     Iff·trans (or-says N L some r (first rs))
     (⊎-elim (λ e. (tt, e)) (λ s. absurd (speaks-numbered N some Ns rs (o .1) later (number-of (s .1)))), λ s. inl (s .1))
 exact-at (N ∷ Ns) (r ∷ rs) o d (suc k) L l =
     let below : k < length Ns = omega (arith, numbered-length Ns rs (o .1)) in
     let some = distinct-at Ns (both (absent N (0 ∷ Ns)) (distinct Ns) d .1) k below in
-    let later = both (not (eqb 0 N)) (absent N Ns) (both (absent N (0 ∷ Ns)) (distinct Ns) d .0) .1 in
+    let later = others N Ns (both (not (eqb 0 N)) (absent N Ns) (both (absent N (0 ∷ Ns)) (distinct Ns) d .0) .1) in
     let rest = exact-at Ns rs (o .1) (both (absent N (0 ∷ Ns)) (distinct Ns) d .1) k L (omega arith) in
     Iff·trans (or-says (getD Ns k 0) L some r (first rs)) (
       ⊎-elim
-          (λ e. absurd (absent-at N Ns later k below (sym (number-of e) ∙ o .0 (λ z. some (sym (number-of e) ∙ z)))))
+          (λ e. absurd (others-at N Ns later k below (sym (number-of e) ∙ o .0 (λ z. some (sym (number-of e) ∙ z)))))
           (λ s. let q = rest .0 (s .1) in ((s .0, q .0), q .1)),
       λ s. inr (s .0 .0, rest .1 (s .0 .1, s .1)),
     )

@@ -28,7 +28,7 @@ use lib.Dec.{ltb, eqb}
 use lib.ListN.{getD, take}
 use borrow.Author.Tests.{eq-eqb, ne-eqb, eqb-false}
 use Rattle.chain.specs.Tests.{below-true, below-false, equal-true, or-true, or-false}
-use Rattle.chain.specs.Refusals.{refused, fine, test, first, orElse, first-append, Silent, Silents, number-of, or-says, or-silents, silent-as, first-silent, Numbered, exact-at, Only, only-test, test-exact, test-silent}
+use Rattle.chain.specs.Refusals.{refused, fine, test, first, orElse, first-append, Silent, Silents, or-silents, silent-as, first-silent, Numbered, exact-at, Only, only-test, test-exact, test-silent, earlier}
 use Rattle.chain.specs.Record.{rowOf}
 use Rattle.chain.specs.Sound.{Sound}
 use Rattle.chain.specs.Checks.{count-only, range-only, order-only}
@@ -130,19 +130,9 @@ module _ (c : Chain) (i k L : ℕ) where
 
   -- what is said of every run stands, and nothing else has its numbers
   pub deadline-earlier : (N : ℕ) → N ≢ 0 → N < 9 → (deadlineRefusal c i k ≡ refused N L) ↔ (runRefusal c ≡ refused N L)
-  unfolding first
-  deadline-earlier N some low = rw (deadline-parts c i k) (Iff·trans (or-says N L some (runRefusal c) _) (⊎-elim (λ e. e) late, inl))
-    where
-      skip : (M : ℕ) (r t : Refusal) → Only M r → 9 ≤ M → orElse r t ≡ refused N L → t ≡ refused N L
-      skip M r t only high e = ⊎-elim
-          (λ f. let same : N ≡ M = sym (number-of f) ∙ only (λ z. some (sym (number-of f) ∙ z)) in absurd (omega arith))
-          (λ h. h .1)
-          (or-says N L some r t .0 e)
-
-      late : Silent (runRefusal c) × (first (askCheck c i k ∷ indexCheck c i k ∷ []) ≡ refused N L) → runRefusal c ≡ refused N L
-      late h =
-          let none = skip 13 (indexCheck c i k) fine (index-only c i k) (omega arith) (skip 11 (askCheck c i k) _ (ask-only c i k) (omega arith) (h .1)) in
-          absurd (some (sym (number-of none)))
+  unfolding deadlineRefusal runRefusal Numbered
+  deadline-earlier N some low =
+      earlier N L some (runChecks c) (11 ∷ 13 ∷ []) (askCheck c i k ∷ indexCheck c i k ∷ []) (ask-only c i k, (index-only c i k, tt)) (λ e. omega arith, (λ e. omega arith, tt))
 
 module _ (c : Chain) (i k : ℕ) where
   -- a question is not refused exactly when the chain may run, the node and the firing exist, and every index on the way down is within the limit

@@ -34,7 +34,7 @@ use lib.ListN.{getD, take}
 use borrow.Author.Tests.{ne-eqb, eqb-false}
 use Rattle.words.specs.Table.{tab}
 use Rattle.chain.specs.Tests.{below-true, below-false, upto-true, upto-false, equal-true, sum-iff}
-use Rattle.chain.specs.Refusals.{refused, fine, first, orElse, first-append, first-last, first-fine, Silent, Silents, Numbered, exact-at, number-of, or-says, or-silents, silent-as, Lowest, lowest-is, Only, only-test, only-tab, only-or, test-exact, test-silent, test-alone, all-silent}
+use Rattle.chain.specs.Refusals.{refused, fine, first, orElse, first-append, first-last, first-fine, Silent, Silents, Numbered, exact-at, or-says, or-silents, silent-as, Lowest, lowest-is, Only, only-test, only-tab, only-or, test-exact, test-silent, test-alone, all-silent, earlier}
 use Rattle.chain.specs.Checks.{count-only, range-only, order-only}
 use Rattle.chain.specs.declared.Refusal.{Refusal}
 use Rattle.chain.specs.declared.Chain.{Chain}
@@ -133,13 +133,6 @@ length-silent T = Iff·trans (test-silent 9 0 (λ e. omega arith) _) (below-fals
 pub length-only : (T : ℕ) → Only 9 (lengthCheck T)
 length-only T = only-test 9 0 (ltb longest T)
 
--- a check behind those of a run is said with no number but its own, so every other number is said exactly when it is said of every run
-earlier : (N L M : ℕ) → N ≢ 0 → N ≢ M → (r t : Refusal) → Only M t → (orElse r t ≡ refused N L) ↔ (r ≡ refused N L)
-earlier N L M some other r t only = Iff·trans (or-says N L some r t) (⊎-elim (λ e. e) late, inl)
-  where
-    late : Silent r × (t ≡ refused N L) → r ≡ refused N L
-    late h = absurd (other (sym (number-of (h .1)) ∙ only (λ z. some (sym (number-of (h .1)) ∙ z))))
-
 -- a tick is refused with a number exactly when no earlier check speaks and the number's own condition holds
 module _ (c : Chain) (s : Run) where
   -- the checks of a run, then 17, then both of 9
@@ -187,12 +180,9 @@ module _ (c : Chain) (s : Run) where
 
   -- every other number, so each of 2 to 8, is said exactly when it is said of every run
   pub tick-earlier : (N L : ℕ) → N ≢ 0 → N ≢ 17 → N ≢ 9 → (tickRefusal c s ≡ refused N L) ↔ (runRefusal c ≡ refused N L)
-  tick-earlier N L some other nor = rw tick-parts (Iff·trans (or-says N L some (runRefusal c) _) (⊎-elim (λ e. e) late, inl))
-    where
-      late : Silent (runRefusal c) × (orElse (stateCheck c s) (nineCheck c s) ≡ refused N L) → runRefusal c ≡ refused N L
-      late h =
-          let e = earlier N L 9 some nor (stateCheck c s) (nineCheck c s) (nine-only c s) .0 (h .1) in
-          absurd (other (sym (number-of e) ∙ state-only c s (λ z. some (sym (number-of e) ∙ z))))
+  unfolding joined runRefusal Numbered
+  tick-earlier N L some other nor =
+      rw tick-joined (earlier N L some (runChecks c) (17 ∷ 9 ∷ []) (stateCheck c s ∷ nineCheck c s ∷ []) (state-only c s, (nine-only c s, tt)) (λ e. other (sym e), (λ e. nor (sym e), tt)))
 
   -- a tick is not refused exactly when the chain is accepted with capacities that are enough, the state passes 17, and clock and counts can grow
   pub tick-accepts : Silent (tickRefusal c s) ↔ ((Accepted c × ((i : ℕ) → i < c .n → Enough c i)) × (StateSound c s × ((s .clock < longest) × ((i : ℕ) → i ≤ c .n → countAt s i ≢ limit))))
@@ -237,7 +227,8 @@ module _ (c : Chain) (T : ℕ) where
 
   -- every other number, so each of 2 to 8, is said exactly when it is said of every run
   pub deadline-run-earlier : (N L : ℕ) → N ≢ 0 → N ≢ 9 → (deadlineRunRefusal c T ≡ refused N L) ↔ (runRefusal c ≡ refused N L)
-  deadline-run-earlier N L some other = rw deadline-run-parts (earlier N L 9 some other (runRefusal c) (lengthCheck T) (length-only T))
+  unfolding deadlineRunRefusal runRefusal Numbered
+  deadline-run-earlier N L some other = earlier N L some (runChecks c) (9 ∷ []) (lengthCheck T ∷ []) (length-only T, tt) (λ e. other (sym e), tt)
 
   -- a deadline run is not refused exactly when the chain is accepted with capacities that are enough, and T is at most 1,000,000
   pub deadline-run-accepts : Silent (deadlineRunRefusal c T) ↔ ((Accepted c × ((i : ℕ) → i < c .n → Enough c i)) × (T ≤ longest))

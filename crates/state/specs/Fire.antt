@@ -20,7 +20,7 @@ use Prim.Native.Nat.{ℕ, zero, suc, _+_, _*_, _≤_, _<_}
 use native.Mathlib.Omega.{arith}
 use lib.ListN.{getD, take}
 use borrow.Author.Tests.{eq-eqb, ne-eqb}
-use Rattle.chain.specs.Refusals.{refused, fine, first, orElse, first-append, Silent, Silents, number-of, or-says, or-silents, silent-as, first-silent, Numbered, exact-at, Only}
+use Rattle.chain.specs.Refusals.{refused, fine, first, orElse, first-append, Silent, Silents, or-silents, silent-as, first-silent, Numbered, exact-at, earlier}
 use Rattle.chain.specs.Record.{rowOf}
 use Rattle.chain.specs.Checks.{rangeCheck, orderCheck, count-only, range-only, order-only}
 use Rattle.chain.specs.declared.Refusal.{Refusal}
@@ -122,20 +122,10 @@ module _ (c : Chain) (s : Run) (i L : ℕ) where
 
   -- what the analysis says stands, and nothing else has its numbers
   pub fire-earlier : (N : ℕ) → N ≢ 0 → N < 9 → (fireRefusal c s i ≡ refused N L) ↔ (analyseRefusal c ≡ refused N L)
-  unfolding first
-  fire-earlier N some low = rw (fire-parts c s i) (Iff·trans (or-says N L some (analyseRefusal c) _) (⊎-elim (λ e. e) late, inl))
-    where
-      skip : (M : ℕ) (r t : Refusal) → Only M r → 9 ≤ M → orElse r t ≡ refused N L → t ≡ refused N L
-      skip M r t only high e = ⊎-elim
-          (λ f. let same : N ≡ M = sym (number-of f) ∙ only (λ z. some (sym (number-of f) ∙ z)) in absurd (omega arith))
-          (λ h. h .1)
-          (or-says N L some r t .0 e)
-
-      late : Silent (analyseRefusal c) × (orElse (stateCheck c s) (first (nodeChecks c s i)) ≡ refused N L) → analyseRefusal c ≡ refused N L
-      late h =
-          let node = skip 17 (stateCheck c s) _ (state-only c s) (omega arith) (h .1) in
-          let none = skip 12 (roomCheck c s i) fine (room-only c s i) (omega arith) (skip 11 (overCheck c s i) _ (over-only c s i) (omega arith) (skip 9 (countCheck c s i) _ (own.count-only c s i) (omega arith) node)) in
-          absurd (some (sym (number-of none)))
+  unfolding fireRefusal analyseRefusal Numbered
+  fire-earlier N some low =
+      earlier N L some (analyseChecks c) (17 ∷ 9 ∷ 11 ∷ 12 ∷ []) (stateCheck c s ∷ nodeChecks c s i) (state-only c s, (own.count-only c s i, (over-only c s i, (room-only c s i, tt))))
+      (λ e. omega arith, (λ e. omega arith, (λ e. omega arith, (λ e. omega arith, tt))))
 
 module _ (c : Chain) (s : Run) (i : ℕ) where
   -- a firing is not refused exactly when the chain is accepted, the state passes 17, and the firing is one that may be
