@@ -23,7 +23,7 @@
 --   only-test, -fine, -or, -map, -tab
 --                            what keeps to one number
 --   exact-at                 a list says the number of its check k at L exactly when the checks before it are silent and it says so
---   earlier                  a list says a number that its last checks do not have exactly when the checks before these say it
+--   said-earlier             a list says a number that its last checks do not have exactly when the checks before these say it
 use mathlib.Core.Path.{_≡_, refl, sym, ap, ap₂, _∙_}
 use mathlib.Core.Bool.{Bool, true, false, cond, not, _&&_, true≢false}
 use mathlib.Core.Logic.{_↔_, _≢_, _⊎_, inl, inr, ⊎-elim, Iff·trans, Iff·and, Iff·rfl, by-cases}
@@ -287,8 +287,8 @@ speaks-numbered N some (M ∷ Ms) (r ∷ rs) o a e = speaks? r
     (λ n. a .0 (sym (o .0 n) ∙ sym (number-of (or-speaks r (first rs) n)) ∙ e))
 
 -- checks behind others have no number but their own, so every other number is said exactly when the others say it
-pub earlier : (N L : ℕ) → N ≢ 0 → (ps : List Refusal) (Ns : List ℕ) (rs : List Refusal) → Numbered Ns rs → Others N Ns → (first (ps ++ rs) ≡ refused N L) ↔ (first ps ≡ refused N L)
-earlier N L some ps Ns rs o a = rw (first-append ps rs) (Iff·trans (or-says N L some (first ps) (first rs)) (⊎-elim (λ e. e) (λ s. absurd (speaks-numbered N some Ns rs o a (number-of (s .1)))), inl))
+pub said-earlier : (N L : ℕ) → N ≢ 0 → (ps : List Refusal) (Ns : List ℕ) (rs : List Refusal) → Numbered Ns rs → Others N Ns → (first (ps ++ rs) ≡ refused N L) ↔ (first ps ≡ refused N L)
+said-earlier N L some ps Ns rs o a = rw (first-append ps rs) (Iff·trans (or-says N L some (first ps) (first rs)) (⊎-elim (λ e. e) (λ s. absurd (speaks-numbered N some Ns rs o a (number-of (s .1)))), inl))
 
 -- a list of checks says the number of its check k at L exactly when the checks before that one are silent and it says so
 pub exact-at : (Ns : List ℕ) (rs : List Refusal) → Numbered Ns rs → T (distinct Ns) → (k L : ℕ) → k < length rs → (first rs ≡ refused (getD Ns k 0) L) ↔ (Silents (take k rs) × (getD rs k fine ≡ refused (getD Ns k 0) L))

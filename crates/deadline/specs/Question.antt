@@ -28,7 +28,7 @@ use lib.Dec.{ltb, eqb}
 use lib.ListN.{getD, take}
 use borrow.Author.Tests.{eq-eqb, ne-eqb, eqb-false}
 use Rattle.chain.specs.Tests.{below-true, below-false, equal-true, or-true, or-false}
-use Rattle.chain.specs.Refusals.{refused, fine, test, first, orElse, first-append, Silent, Silents, or-silents, silent-as, first-silent, Numbered, exact-at, Only, only-test, test-exact, test-silent, earlier}
+use Rattle.chain.specs.Refusals.{refused, fine, test, first, orElse, first-append, Silent, Silents, or-silents, silent-as, first-silent, Numbered, exact-at, Only, only-test, test-exact, test-silent, said-earlier}
 use Rattle.chain.specs.Record.{rowOf}
 use Rattle.chain.specs.Sound.{Sound}
 use Rattle.chain.specs.Checks.{count-only, range-only, order-only}
@@ -132,7 +132,7 @@ module _ (c : Chain) (i k L : ℕ) where
   pub deadline-earlier : (N : ℕ) → N ≢ 0 → N < 9 → (deadlineRefusal c i k ≡ refused N L) ↔ (runRefusal c ≡ refused N L)
   unfolding deadlineRefusal runRefusal Numbered
   deadline-earlier N some low =
-      earlier N L some (runChecks c) (11 ∷ 13 ∷ []) (askCheck c i k ∷ indexCheck c i k ∷ []) (ask-only c i k, (index-only c i k, tt)) (λ e. omega arith, (λ e. omega arith, tt))
+      said-earlier N L some (runChecks c) (11 ∷ 13 ∷ []) (askCheck c i k ∷ indexCheck c i k ∷ []) (ask-only c i k, (index-only c i k, tt)) (λ e. omega arith, (λ e. omega arith, tt))
 
 module _ (c : Chain) (i k : ℕ) where
   -- a question is not refused exactly when the chain may run, the node and the firing exist, and every index on the way down is within the limit

@@ -7,14 +7,13 @@
 --   poured-shows             at the end the flow of a fresh start shows the state
 --   shown-with               the state that a flow shows, read out of it, with its clock and work done beside it
 use mathlib.Core.Path.{_≡_, refl, sym, subst, _∙_}
-use mathlib.Core.Logic.{_≢_, ⊎-elim}
+use mathlib.Core.Logic.{_≢_}
 use mathlib.Core.List.{List}
 use Prim.Native.Nat.{ℕ, _+_, _≤_, _<_}
-use native.Mathlib.Nat.{eq-or-lt-of-le}
 use native.Mathlib.Omega.{arith}
 use lib.ListN.{length, getD, set, length-set}
 use lib.Seq.{getD-set-same, getD-set-other}
-use Rattle.words.specs.Table.{is-tab}
+use Rattle.words.specs.Table.{is-tab, below-next}
 use Rattle.chain.specs.declared.Chain.{Chain}
 use Rattle.sizing.specs.Checks.{limit}
 use Rattle.state.specs.State.{countAt, heldAt, same-run}
@@ -74,14 +73,12 @@ module _ (l : List ℕ) (s : Run) (wide : length l ≡ 83) where
     poured-more = record {
       reach = omega arith;
       long = length-set one (65 + i) _ ∙ length-set m (48 + i) _ ∙ p .long;
-      counts = λ j f. ⊎-elim
-          (λ e. rw e (getD-set-other one (65 + i) (48 + i) _ 0 (λ z. omega arith) ∙ getD-set-same m (48 + i) _ 0 (omega (arith, p .long))))
-          (λ g. other (48 + j) (λ z. omega arith) (λ z. omega arith) ∙ p .counts j g)
-          (eq-or-lt-of-le {n = j} {m = i} (omega arith));
-      holds = λ j f. ⊎-elim
-          (λ e. rw e (getD-set-same one (65 + i) _ 0 (omega (arith, p .long, length-set m (48 + i) (countAt s i)))))
-          (λ g. other (65 + j) (λ z. omega arith) (λ z. omega arith) ∙ p .holds j g)
-          (eq-or-lt-of-le {n = j} {m = i} (omega arith));
+      counts = below-next i
+          (getD-set-other one (65 + i) (48 + i) _ 0 (λ z. omega arith) ∙ getD-set-same m (48 + i) _ 0 (omega (arith, p .long)))
+          (λ j g. other (48 + j) (λ z. omega arith) (λ z. omega arith) ∙ p .counts j g);
+      holds = below-next i
+          (getD-set-same one (65 + i) _ 0 (omega (arith, p .long, length-set m (48 + i) (countAt s i))))
+          (λ j g. other (65 + j) (λ z. omega arith) (λ z. omega arith) ∙ p .holds j g);
       rest = λ y f. other y (λ z. omega arith) (λ z. omega arith) ∙ p .rest y f;
       size = other 82 (λ z. omega arith) (λ z. omega arith) ∙ p .size;
     }
@@ -107,10 +104,7 @@ poured-shows {l} {m} {c} {s} x typed f = record { shows = shown-now; typed = typ
           takes = λ j h. other (32 + j) (λ e. omega (arith, x .few)) ∙ p .rest (32 + j) (omega (arith, x .few)) ∙ x .takes j h;
           wide = typed .counts;
           deep = typed .held;
-          counts = λ j h. ⊎-elim
-              (λ e. rw e (getD-set-same (f .before) 64 _ 0 (omega (arith, p .long, x .long))))
-              (λ g. other (48 + j) (λ e. omega arith) ∙ p .counts j g)
-              (eq-or-lt-of-le {n = j} {m = 16} (omega arith));
+          counts = below-next 16 (getD-set-same (f .before) 64 _ 0 (omega (arith, p .long, x .long))) (λ j g. other (48 + j) (λ e. omega arith) ∙ p .counts j g);
           holds = λ j h. other (65 + j) (λ e. omega arith) ∙ p .holds j h;
         })
 

@@ -7,14 +7,13 @@
 --   Part l i r               a state of which the first i slots are read out of the flow
 --   part-none, -more, -shown at the start, with one slot more, and at the end
 use mathlib.Core.Path.{_≡_, refl, sym, subst, _∙_}
-use mathlib.Core.Logic.{_≢_, ⊎-elim}
+use mathlib.Core.Logic.{_≢_}
 use mathlib.Core.List.{List}
 use Prim.Native.Nat.{ℕ, _+_, _≤_, _<_}
-use native.Mathlib.Nat.{eq-or-lt-of-le}
 use native.Mathlib.Omega.{arith}
 use lib.ListN.{length, getD, set, replicate, length-set, length-replicate, getD-replicate}
 use lib.Seq.{getD-set-same, getD-set-other}
-use Rattle.words.specs.Table.{tab, is-tab, slots, slots-none, slots-more, slots-whole}
+use Rattle.words.specs.Table.{tab, is-tab, slots, slots-none, slots-more, slots-whole, below-next}
 use Rattle.chain.specs.Record.{rowOf}
 use Rattle.chain.specs.Sound.{Sound}
 use Rattle.chain.specs.declared.Chain.{Chain}
@@ -66,21 +65,18 @@ module _ {c : Chain} {i : ℕ} {l : List ℕ} (few : c .n ≤ 16) (f : Filled c 
   long-two : length two ≡ 83
   long-two = length-set one (16 + i) _ ∙ long-one
 
-  row : {P : ℕ → Type 0} → P i → ((j : ℕ) → j < i → P j) → (j : ℕ) → j < i + 1 → P j
-  row {P} here before j m = ⊎-elim (λ e. rw e here) (λ n. before j n) (eq-or-lt-of-le {n = j} {m = i} (omega arith))
-
   pub filled-more : Filled c (i + 1) three
   filled-more = record {
     reach = omega arith;
     long = length-set two (32 + i) _ ∙ long-two;
     many = other 82 (λ e. omega arith) (λ e. omega arith) (λ e. omega arith) ∙ f .many;
-    puts = row {P = λ j. getD three j 0 ≡ rowOf c j .produce}
+    puts = below-next {P = λ j. getD three j 0 ≡ rowOf c j .produce} i
         (getD-set-other two (32 + i) i _ 0 (λ e. omega arith) ∙ getD-set-other one (16 + i) i _ 0 (λ e. omega arith) ∙ getD-set-same l i _ 0 (omega (arith, f .long)))
         (λ j n. other j (λ e. omega arith) (λ e. omega arith) (λ e. omega arith) ∙ f .puts j n);
-    waits = row {P = λ j. thresholdIn three j ≡ rowOf c j .threshold}
+    waits = below-next {P = λ j. thresholdIn three j ≡ rowOf c j .threshold} i
         (getD-set-other two (32 + i) (16 + i) _ 0 (λ e. omega arith) ∙ getD-set-same one (16 + i) _ 0 (omega (arith, long-one)))
         (λ j n. other (16 + j) (λ e. omega arith) (λ e. omega arith) (λ e. omega arith) ∙ f .waits j n);
-    takes = row {P = λ j. consumeIn three j ≡ rowOf c j .consume}
+    takes = below-next {P = λ j. consumeIn three j ≡ rowOf c j .consume} i
         (getD-set-same two (32 + i) _ 0 (omega (arith, long-two)))
         (λ j n. other (32 + j) (λ e. omega arith) (λ e. omega arith) (λ e. omega arith) ∙ f .takes j n);
     rest = λ y a b. other y (λ e. omega arith) (λ e. omega arith) (λ e. omega arith) ∙ f .rest y a b;

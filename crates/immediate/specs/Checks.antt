@@ -22,7 +22,7 @@ use lib.Dec.{ltb}
 use borrow.Author.Tests.{eq-eqb, ne-eqb}
 use Rattle.words.specs.Table.{tab}
 use Rattle.chain.specs.Tests.{below-true, below-false}
-use Rattle.chain.specs.Refusals.{refused, test, first, orElse, first-append, first-last, Silent, Silents, Numbered, exact-at, or-silents, silent-as, Lowest, lowest-is, Only, only-test, only-tab, test-exact, test-silent, all-silent, earlier}
+use Rattle.chain.specs.Refusals.{refused, test, first, orElse, first-append, first-last, Silent, Silents, Numbered, exact-at, or-silents, silent-as, Lowest, lowest-is, Only, only-test, only-tab, test-exact, test-silent, all-silent, said-earlier}
 use Rattle.chain.specs.declared.Refusal.{Refusal}
 use Rattle.chain.specs.declared.Chain.{Chain}
 use Rattle.chain.specs.Checks.{count-only, range-only, order-only}
@@ -113,7 +113,7 @@ module _ (c : Chain) (k : ℕ) where
   -- every other number is said exactly when it is said of every run
   pub immediate-earlier : (N L : ℕ) → N ≢ 0 → N ≢ 9 → (immediateRefusal c k ≡ refused N L) ↔ (runRefusal c ≡ refused N L)
   unfolding immediateRefusal runRefusal Numbered
-  immediate-earlier N L some other = earlier N L some (runChecks c) (9 ∷ []) (lengthCheck c k ∷ []) (length-only, tt) (λ e. other (sym e), tt)
+  immediate-earlier N L some other = said-earlier N L some (runChecks c) (9 ∷ []) (lengthCheck c k ∷ []) (length-only, tt) (λ e. other (sym e), tt)
 
   pub immediate-accepts : Silent (immediateRefusal c k) ↔ ((Accepted c × ((i : ℕ) → i < c .n → Enough c i)) × ((i : ℕ) → i ≤ c .n → F c k i ≤ most))
   immediate-accepts =

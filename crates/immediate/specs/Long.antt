@@ -4,12 +4,10 @@
 --   passing-none, -more      at the start, and one node further
 --   passing-over, -past      9 speaks at the first count that passes, and is silent where none does
 use mathlib.Core.Path.{_≡_, refl, sym, ap, _∙_}
-use mathlib.Core.Logic.{⊎-elim}
 use Prim.Native.Nat.{ℕ, suc, _+_, _*_, _≤_, _<_}
-use native.Mathlib.Nat.{eq-or-lt-of-le}
 use native.Mathlib.Numerals.{add-one}
 use native.Mathlib.Omega.{arith}
-use Rattle.words.specs.Table.{tab}
+use Rattle.words.specs.Table.{tab, below-next}
 use Rattle.words.specs.declared.Queue.{Queue}
 use Rattle.chain.specs.Refusals.{refused, fine, first-fine}
 use Rattle.chain.specs.Record.{rowOf}
@@ -37,7 +35,7 @@ passing-none c k = record { reach = omega arith; is = refl; under = λ j l. absu
 
 module _ {c : Chain} {k f i : ℕ} (x : Passing c k f i) where
   so-far : f ≤ most → (j : ℕ) → j < i + 1 → F c k j ≤ most
-  so-far l j m = ⊎-elim (λ e. rw e (omega (arith, x .is))) (λ h. x .under j h) (eq-or-lt-of-le {n = j} {m = i} (omega arith))
+  so-far l = below-next i (omega (arith, x .is)) (x .under)
 
   pub passing-more : i < c .n → f ≤ most → {g : ℕ} → g ≡ fires (rowOf c i .threshold) (rowOf c i .consume) (start (rowOf c i) + rowOf c i .produce * f) → Passing c k g (i + 1)
   unfolding F

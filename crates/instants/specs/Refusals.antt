@@ -34,7 +34,7 @@ use lib.ListN.{getD, take}
 use borrow.Author.Tests.{ne-eqb, eqb-false}
 use Rattle.words.specs.Table.{tab}
 use Rattle.chain.specs.Tests.{below-true, below-false, upto-true, upto-false, equal-true, sum-iff}
-use Rattle.chain.specs.Refusals.{refused, fine, first, orElse, first-append, first-last, first-fine, Silent, Silents, Numbered, exact-at, or-says, or-silents, silent-as, Lowest, lowest-is, Only, only-test, only-tab, only-or, test-exact, test-silent, test-alone, all-silent, earlier}
+use Rattle.chain.specs.Refusals.{refused, fine, first, orElse, first-append, first-last, first-fine, Silent, Silents, Numbered, exact-at, or-says, or-silents, silent-as, Lowest, lowest-is, Only, only-test, only-tab, only-or, test-exact, test-silent, test-alone, all-silent, said-earlier}
 use Rattle.chain.specs.Checks.{count-only, range-only, order-only}
 use Rattle.chain.specs.declared.Refusal.{Refusal}
 use Rattle.chain.specs.declared.Chain.{Chain}
@@ -182,7 +182,7 @@ module _ (c : Chain) (s : Run) where
   pub tick-earlier : (N L : ℕ) → N ≢ 0 → N ≢ 17 → N ≢ 9 → (tickRefusal c s ≡ refused N L) ↔ (runRefusal c ≡ refused N L)
   unfolding joined runRefusal Numbered
   tick-earlier N L some other nor =
-      rw tick-joined (earlier N L some (runChecks c) (17 ∷ 9 ∷ []) (stateCheck c s ∷ nineCheck c s ∷ []) (state-only c s, (nine-only c s, tt)) (λ e. other (sym e), (λ e. nor (sym e), tt)))
+      rw tick-joined (said-earlier N L some (runChecks c) (17 ∷ 9 ∷ []) (stateCheck c s ∷ nineCheck c s ∷ []) (state-only c s, (nine-only c s, tt)) (λ e. other (sym e), (λ e. nor (sym e), tt)))
 
   -- a tick is not refused exactly when the chain is accepted with capacities that are enough, the state passes 17, and clock and counts can grow
   pub tick-accepts : Silent (tickRefusal c s) ↔ ((Accepted c × ((i : ℕ) → i < c .n → Enough c i)) × (StateSound c s × ((s .clock < longest) × ((i : ℕ) → i ≤ c .n → countAt s i ≢ limit))))
@@ -228,7 +228,7 @@ module _ (c : Chain) (T : ℕ) where
   -- every other number, so each of 2 to 8, is said exactly when it is said of every run
   pub deadline-run-earlier : (N L : ℕ) → N ≢ 0 → N ≢ 9 → (deadlineRunRefusal c T ≡ refused N L) ↔ (runRefusal c ≡ refused N L)
   unfolding deadlineRunRefusal runRefusal Numbered
-  deadline-run-earlier N L some other = earlier N L some (runChecks c) (9 ∷ []) (lengthCheck T ∷ []) (length-only T, tt) (λ e. other (sym e), tt)
+  deadline-run-earlier N L some other = said-earlier N L some (runChecks c) (9 ∷ []) (lengthCheck T ∷ []) (length-only T, tt) (λ e. other (sym e), tt)
 
   -- a deadline run is not refused exactly when the chain is accepted with capacities that are enough, and T is at most 1,000,000
   pub deadline-run-accepts : Silent (deadlineRunRefusal c T) ↔ ((Accepted c × ((i : ℕ) → i < c .n → Enough c i)) × (T ≤ longest))

@@ -35,7 +35,7 @@ use borrow.Author.Tests.{le-ltb, eq-eqb}
 use lib.ListN.{getD, take}
 use Rattle.words.specs.Table.{tab, tab-alike}
 use Rattle.chain.specs.Tests.{Out, below-true, below-false, differ-true, differ-false, or-true, or-false, and-true, and-false}
-use Rattle.chain.specs.Refusals.{refused, fine, test, first, orElse, first-append, first-last, Silent, Silents, Numbered, exact-at, Lowest, lowest-is, Only, only-test, only-tab, test-exact, test-silent, all-silent, earlier}
+use Rattle.chain.specs.Refusals.{refused, fine, test, first, orElse, first-append, first-last, Silent, Silents, Numbered, exact-at, Lowest, lowest-is, Only, only-test, only-tab, test-exact, test-silent, all-silent, said-earlier}
 use Rattle.chain.specs.Record.{rowOf}
 use Rattle.chain.specs.Checks.{countCheck, rangeCheck, orderCheck, recordRange, chainChecks, chainRefusal, fields, FirstOut, FirstOver, count-exact, range-exact, order-exact, count-only, range-only, order-only}
 use Rattle.chain.specs.declared.Refusal.{Refusal}
@@ -303,4 +303,4 @@ module _ (c : Chain) (L : ℕ) where
   -- every other number is said of a chain that is to be run exactly when the analysis says it
   pub run-earlier : (N : ℕ) → N ≢ 0 → N ≢ 8 → (runRefusal c ≡ refused N L) ↔ (analyseRefusal c ≡ refused N L)
   unfolding runRefusal analyseRefusal Numbered
-  run-earlier N some other = earlier N L some (analyseChecks c) (8 ∷ []) (capacityCheck c ∷ []) (capacity-only c, tt) (λ e. other (sym e), tt)
+  run-earlier N some other = said-earlier N L some (analyseChecks c) (8 ∷ []) (capacityCheck c ∷ []) (capacity-only c, tt) (λ e. other (sym e), tt)

@@ -10,15 +10,15 @@
 --   drawn-none, -more, -plans
 --                            at the start, with one queue more, and at the end
 use mathlib.Core.Path.{_≡_, _∙_}
-use mathlib.Core.Logic.{_≢_, ⊎-elim}
+use mathlib.Core.Logic.{_≢_}
 use mathlib.Core.Bool.{Bool}
 use mathlib.Core.List.{List}
 use Prim.Native.Nat.{ℕ, _+_, _≤_, _<_}
-use native.Mathlib.Nat.{eq-or-lt-of-le}
 use native.Mathlib.Omega.{arith}
 use lib.Dec.{ltb}
 use lib.ListN.{length, getD, set, length-set}
 use lib.Seq.{getD-set-same, getD-set-other}
+use Rattle.words.specs.Table.{below-next}
 use Rattle.chain.specs.Record.{rowOf, workOf}
 use Rattle.chain.specs.declared.Chain.{Chain}
 use Rattle.chain.specs.Refusals.{test, first, orElse, Silent}
@@ -107,17 +107,14 @@ module _ {c : Chain} {i : ℕ} {l : List ℕ} (few : c .n ≤ 16) (d : Drawn c i
   long-one : length one ≡ 33
   long-one = length-set l i _ ∙ d .long
 
-  queue : {P : ℕ → Type 0} → P i → ((j : ℕ) → j < i → P j) → (j : ℕ) → j < i + 1 → P j
-  queue {P} here before j m = ⊎-elim (λ e. rw e here) (λ n. before j n) (eq-or-lt-of-le {n = j} {m = i} (omega arith))
-
   pub drawn-more : Drawn c (i + 1) two
   drawn-more = record {
     reach = omega arith;
     long = length-set one (16 + i) _ ∙ long-one;
-    capacities = queue {P = λ j. capacityIn two j ≡ capacityOf (rowOf c j)}
+    capacities = below-next {P = λ j. capacityIn two j ≡ capacityOf (rowOf c j)} i
         (getD-set-other one (16 + i) i _ 0 (λ e. omega arith) ∙ getD-set-same l i _ 0 (omega (arith, d .long)) ∙ e)
         (λ j n. other j (λ e. omega arith) (λ e. omega arith) ∙ d .capacities j n);
-    works = queue {P = λ j. workIn two j ≡ workOf c j}
+    works = below-next {P = λ j. workIn two j ≡ workOf c j} i
         (getD-set-same one (16 + i) _ 0 (omega (arith, long-one)))
         (λ j n. other (16 + j) (λ e. omega arith) (λ e. omega arith) ∙ d .works j n);
     period = other 32 (λ e. omega arith) (λ e. omega arith) ∙ d .period;

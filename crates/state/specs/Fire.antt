@@ -20,7 +20,7 @@ use Prim.Native.Nat.{ℕ, zero, suc, _+_, _*_, _≤_, _<_}
 use native.Mathlib.Omega.{arith}
 use lib.ListN.{getD, take}
 use borrow.Author.Tests.{eq-eqb, ne-eqb}
-use Rattle.chain.specs.Refusals.{refused, fine, first, orElse, first-append, Silent, Silents, or-silents, silent-as, first-silent, Numbered, exact-at, earlier}
+use Rattle.chain.specs.Refusals.{refused, fine, first, orElse, first-append, Silent, Silents, or-silents, silent-as, first-silent, Numbered, exact-at, said-earlier}
 use Rattle.chain.specs.Record.{rowOf}
 use Rattle.chain.specs.Checks.{rangeCheck, orderCheck, count-only, range-only, order-only}
 use Rattle.chain.specs.declared.Refusal.{Refusal}
@@ -124,7 +124,7 @@ module _ (c : Chain) (s : Run) (i L : ℕ) where
   pub fire-earlier : (N : ℕ) → N ≢ 0 → N < 9 → (fireRefusal c s i ≡ refused N L) ↔ (analyseRefusal c ≡ refused N L)
   unfolding fireRefusal analyseRefusal Numbered
   fire-earlier N some low =
-      earlier N L some (analyseChecks c) (17 ∷ 9 ∷ 11 ∷ 12 ∷ []) (stateCheck c s ∷ nodeChecks c s i) (state-only c s, (own.count-only c s i, (over-only c s i, (room-only c s i, tt))))
+      said-earlier N L some (analyseChecks c) (17 ∷ 9 ∷ 11 ∷ 12 ∷ []) (stateCheck c s ∷ nodeChecks c s i) (state-only c s, (own.count-only c s i, (over-only c s i, (room-only c s i, tt))))
       (λ e. omega arith, (λ e. omega arith, (λ e. omega arith, (λ e. omega arith, tt))))
 
 module _ (c : Chain) (s : Run) (i : ℕ) where

@@ -3,18 +3,18 @@
 --   dued-none, -taken, -left, -end
 --                            at the start, with node j+1's deadline wanted and not wanted, and at the end
 --   dued-size, dued-dated    the number of queues, and what the deadline of N_(j+1) asks
-use mathlib.Core.Path.{_≡_, sym, ap, subst, _∙_}
+use mathlib.Core.Path.{_≡_, sym, ap, _∙_}
 use mathlib.Core.Logic.{_≢_, ⊎-elim, Iff·rfl}
 use mathlib.Core.Bool.{Bool, false, cond, _||_}
 use mathlib.Core.List.{List}
 use Prim.Native.Nat.{ℕ, suc, _+_, _≤_, _<_}
-use native.Mathlib.Nat.{eq-or-lt-of-le}
 use native.Mathlib.Numerals.{add-one}
 use native.Mathlib.Omega.{arith}
 use lib.Dec.{eqb, leb}
 use lib.ListN.{length, set, replicate, length-set, length-replicate}
 use lib.Seq.{getD-set-same, getD-set-other}
 use borrow.Author.Tests.{eqb-false, ne-eqb}
+use Rattle.words.specs.Table.{below-next}
 use Rattle.chain.specs.Tests.{or-false, upto-false}
 use Rattle.chain.specs.declared.Chain.{Chain}
 use Rattle.state.specs.Fired.{Over}
@@ -65,11 +65,9 @@ module _ {l f : List ℕ} {every : Bool} {j : ℕ} {d : List ℕ} (a : Dued l f 
     reach = omega arith;
     long = length-set d j v ∙ a .long;
     give = record {
-      gives = λ {c} {s} x k m n w. ⊎-elim
-          (λ (e : k ≡ j).
-          rw e (getD-set-same d j v 0 (omega (arith, a .long)) ∙ g .due (x .shown) ∙ ap (λ (i : ℕ). datedOf c i (next s i)) (add-one j)))
-          (λ p. getD-set-other d j k v 0 (λ e. omega arith) ∙ a .give .gives x k p n w)
-          (eq-or-lt-of-le {n = k} {m = j} (omega arith));
+      gives = λ {c} {s} x. below-next j
+          (λ n w. getD-set-same d j v 0 (omega (arith, a .long)) ∙ g .due (x .shown) ∙ ap (λ (i : ℕ). datedOf c i (next s i)) (add-one j))
+          (λ k p n w. getD-set-other d j k v 0 (λ e. omega arith) ∙ a .give .gives x k p n w);
     };
   }
 
@@ -78,10 +76,7 @@ module _ {l f : List ℕ} {every : Bool} {j : ℕ} {d : List ℕ} (a : Dued l f 
     reach = omega arith;
     long = a .long;
     give = record {
-      gives = λ {c} {s} x k m n w. ⊎-elim
-          (λ (e : k ≡ j). absurd (unwanted t x (subst (λ (y : ℕ). y < c .n) e n) (subst (λ (y : ℕ). Wanted every c s y) e w)))
-          (λ p. a .give .gives x k p n w)
-          (eq-or-lt-of-le {n = k} {m = j} (omega arith));
+      gives = λ {c} {s} x. below-next j (λ n w. absurd (unwanted t x n w)) (a .give .gives x);
     };
   }
 

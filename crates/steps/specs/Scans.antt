@@ -8,17 +8,16 @@
 --   chosen-none, -taken, -under, -later, -end
 --                            at the start, with node j+1 chosen, past it where it is below threshold or later, and at the end
 use mathlib.Core.Path.{_≡_, refl, sym, ap, subst, _∙_}
-use mathlib.Core.Logic.{_≢_, ⊎-elim, by-cases}
+use mathlib.Core.Logic.{_≢_, by-cases}
 use mathlib.Core.Bool.{Bool, true, false, cond, _&&_}
 use mathlib.Core.List.{List}
 use Prim.Native.Nat.{ℕ, zero, suc, _+_, _≤_, _<_}
-use native.Mathlib.Nat.{eq-or-lt-of-le}
 use native.Mathlib.Numerals.{add-one}
 use native.Mathlib.Decide.{ℕ-discrete, decLe}
 use native.Mathlib.Omega.{arith}
 use lib.ListN.{getD}
 use borrow.Author.Tests.{ne-eqb, le-leb, lt-leb}
-use Rattle.words.specs.Table.{tab}
+use Rattle.words.specs.Table.{tab, below-next}
 use Rattle.chain.specs.Refusals.{refused, Silent, lowest-is, all-silent, first-fine}
 use Rattle.chain.specs.Record.{rowOf}
 use Rattle.chain.specs.Sound.{Sound}
@@ -59,10 +58,7 @@ module _ {f d : List ℕ} {j : ℕ} (a : Looked f d j) (h : j < sizeIn f) where
   looked-more : ((c : Chain) (s : Run) → Sound c → Shows f c s → Keeps d c s → j < c .n → Silent (lackingTest c s (suc j))) → Looked f d (j + 1)
   looked-more here = record {
     reach = omega arith;
-    silent = λ {c} {s} k x e m l. ⊎-elim
-        (λ (z : m ≡ j). subst (λ (y : ℕ). Silent (lackingTest c s (suc y))) (sym z) (here c s k x e (omega (arith, x .many))))
-        (λ g. a .silent k x e m g)
-        (eq-or-lt-of-le {n = m} {m = j} (omega arith));
+    silent = λ {c} {s} k x e. below-next j (here c s k x e (omega (arith, x .many))) (a .silent k x e);
   }
 
   pub looked-rests : heldIn f j < thresholdIn f j → Looked f d (j + 1)

@@ -4,11 +4,10 @@
 --   unspent-none, -more      at the start, and one node further
 --   unspent-found, -end      at the first count that is, and at the end
 use mathlib.Core.Path.{_≡_, refl, sym}
-use mathlib.Core.Logic.{_≢_, ⊎-elim}
+use mathlib.Core.Logic.{_≢_}
 use Prim.Native.Nat.{ℕ, suc, _+_, _≤_, _<_}
-use native.Mathlib.Nat.{eq-or-lt-of-le}
 use native.Mathlib.Omega.{arith}
-use Rattle.words.specs.Table.{tab}
+use Rattle.words.specs.Table.{tab, below-next}
 use Rattle.chain.specs.Refusals.{refused, fine, orElse, first-fine, or-left, or-right, Silent}
 use Rattle.chain.specs.declared.Chain.{Chain}
 use Rattle.sizing.specs.Checks.{limit}
@@ -37,7 +36,7 @@ module _ {n : ℕ} {s : Run} {i : ℕ} (u : Unspent n s i) where
   pub unspent-more : i ≤ n → countAt s i ≢ limit → Unspent n s (i + 1)
   unspent-more h some = record {
     reach = omega arith;
-    before = λ j l. ⊎-elim (λ (e : j ≡ i). rw e some) (λ g. u .before j g) (eq-or-lt-of-le {n = j} {m = i} (omega arith));
+    before = below-next i some (u .before);
   }
 
 module _ (c : Chain) {s : Run} {i : ℕ} (u : Unspent (c .n) s i) (early : s .clock < longest) where

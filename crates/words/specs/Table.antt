@@ -11,11 +11,13 @@
 --                      a table filled slot by slot: at the start, after one slot more, at the end, and where no slot is left
 --   slots-alike        tables that are filled alike are equal
 --   slots-again        a table filled with its own slots is the same table
+--   below-next         what holds of a slot and of each before it holds of each before the next
 use mathlib.Core.Path.{_≡_, refl, sym, ap, ap₂, _∙_}
 use mathlib.Core.Bool.{Bool, true, false, cond}
-use mathlib.Core.Logic.{_≢_}
+use mathlib.Core.Logic.{_≢_, ⊎-elim}
 use mathlib.Core.List.{List, [], _∷_, _++_}
 use Prim.Native.Nat.{ℕ, zero, suc, _+_, _≤_, _<_}
+use native.Mathlib.Nat.{eq-or-lt-of-le}
 use native.Mathlib.Numerals.{add-one}
 use native.Mathlib.Omega.{arith}
 use lib.Dec.{ltb}
@@ -113,3 +115,6 @@ slots-alike f g z N n h =
 pub slots-again : {A : Type 0} (f : ℕ → A) (z : A) (N n : ℕ) → slots (λ i. getD (slots f z N n) i z) z N n ≡ slots f z N n
 slots-again f z N n =
     sym (is-slots _ z N n z (slots f z N n) (length-tab N _) (λ i l m. refl) (λ i l m. slot-free f z N n i z l m))
+
+pub below-next : {P : ℕ → Type 0} (i : ℕ) → P i → ((j : ℕ) → j < i → P j) → (j : ℕ) → j < i + 1 → P j
+below-next {P} i here before j l = ⊎-elim (λ (e : j ≡ i). rw e here) (λ g. before j g) (eq-or-lt-of-le {n = j} {m = i} (omega arith))

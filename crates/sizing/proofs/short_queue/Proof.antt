@@ -1,13 +1,11 @@
 -- `sizing::short_queue` meets its contract: before queue i is looked at, none before it is short.
 use mathlib.Core.Path.{refl, sym}
 use Prim.Native.Nat.{ℕ, _-_, _≤_, _<_}
-use native.Mathlib.Nat.{eq-or-lt-of-le}
 use native.Mathlib.Omega.{arith}
-use mathlib.Core.Logic.{⊎-elim}
 use borrow.Author.Needs.{needs}
 use borrow.Author.Tests.{lt-ltb, le-ltb}
 use Rattle.chain.specs.Refusals.{Silent, first-fine, lowest-is, all-silent, test-exact, test-silent}
-use Rattle.words.specs.Table.{tab}
+use Rattle.words.specs.Table.{tab, below-next}
 use Rattle.sizing.specs.Checks.{shortIn, shortTest}
 use Rattle.sizing.specs.declared.Analysis.{Analysis}
 use Rattle.sizing.proofs.short_queue.Statement.{statement}
@@ -63,7 +61,7 @@ loop-again c =
     let here : Silent (shortTest (l .before .args .t1) (l .loop .i)) = test-silent 8 (l .loop .i) (λ e. omega arith) _ .1 (le-ltb _ _ (c .if1 .left)) in
     record {
       within = omega (arith, c .before .before .before .loop-test .taken);
-      silent = λ j h. ⊎-elim (λ e. rw e here) (λ m. l .loop .inv .silent j m) (eq-or-lt-of-le {n = j} {m = l .loop .i} (omega arith));
+      silent = below-next (l .loop .i) here (l .loop .inv .silent);
     }
 
 returns-2 : tie.Need-returns-2 Inv-loop μ-loop

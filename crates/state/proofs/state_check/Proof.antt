@@ -1,12 +1,10 @@
 -- `state::state_check` meets its contract: before queue i is looked at, none before it is broken.
 use mathlib.Core.Path.{_≡_, refl, sym, ap, _∙_}
-use mathlib.Core.Logic.{⊎-elim}
 use mathlib.Core.Bool.{Bool, true, false}
 use Prim.Native.Nat.{ℕ, suc, _+_, _-_, _≤_, _<_}
-use native.Mathlib.Nat.{eq-or-lt-of-le}
 use native.Mathlib.Omega.{arith}
 use native.Mathlib.Numerals.{add-one}
-use Rattle.words.specs.Table.{tab}
+use Rattle.words.specs.Table.{tab, below-next}
 use Rattle.chain.specs.Refusals.{refused, Silent, first-fine, lowest-is, all-silent, test-exact, test-silent}
 use Rattle.chain.specs.Record.{rowOf, workOf}
 use Rattle.chain.specs.declared.Chain.{Chain}
@@ -41,7 +39,7 @@ module _ (c : Chain) (s : Run) (i : ℕ) where
     more : b ≡ false → Passed c s i → i < c .n → Passed c s (i + 1)
     more t p l = record {
       within = omega arith;
-      silent = λ j h. ⊎-elim (λ e. rw e (steady-here t)) (λ m. p .silent j m) (eq-or-lt-of-le {n = j} {m = i} (omega arith));
+      silent = below-next i (steady-here t) (p .silent);
     }
 
 none : (c : Chain) (s : Run) → Passed c s 0
