@@ -229,11 +229,19 @@ pub order-only : (c : Chain) (q : ℕ) → Only 5 (orderCheck c q)
 unfolding orderCheck
 order-only c q = only-tab 5 _ (λ i. only-test 5 (q + 20 * i + 8) (ltb (rowOf c i .threshold) (rowOf c i .consume))) (c .n)
 
+-- the numbers of a record's checks, in order: each speaks with its own
+abbrev pub chainNumbers : List ℕ
+chainNumbers = 2 ∷ 4 ∷ 5 ∷ []
+
+pub chain-numbered : (c : Chain) → Numbered chainNumbers (chainChecks c)
+unfolding Numbered
+chain-numbered c = (count-only (c .n), (range-only c 20 (20 + 20 * c .n), (order-only c 20, tt)))
+
 -- a record is refused with a number exactly when no earlier check speaks and the number's own condition holds
 module _ (c : Chain) (L : ℕ) where
-  record-at : (k : ℕ) → k < 3 → (chainRefusal c ≡ refused (getD (2 ∷ 4 ∷ 5 ∷ []) k 0) L) ↔ (Silents (take k (chainChecks c)) × (getD (chainChecks c) k fine ≡ refused (getD (2 ∷ 4 ∷ 5 ∷ []) k 0) L))
-  unfolding chainRefusal Numbered
-  record-at k l = exact-at (2 ∷ 4 ∷ 5 ∷ []) (chainChecks c) (count-only (c .n), (range-only c 20 (20 + 20 * c .n), (order-only c 20, tt))) tt k L l
+  record-at : (k : ℕ) → k < 3 → (chainRefusal c ≡ refused (getD chainNumbers k 0) L) ↔ (Silents (take k (chainChecks c)) × (getD (chainChecks c) k fine ≡ refused (getD chainNumbers k 0) L))
+  unfolding chainRefusal
+  record-at k l = exact-at chainNumbers (chainChecks c) (chain-numbered c) tt k L l
 
   pub record-2 : (chainRefusal c ≡ refused 2 L) ↔ (Out 1 16 (c .n) × (L ≡ 0))
   unfolding Silents

@@ -8,6 +8,7 @@
 --   First rs N L             the first check of the list that speaks says N at L
 --   Lowest g n N L           the first of g 0, .. g (n - 1) that speaks says N at L
 --   Only N r, Numbered Ns rs a check speaks with no number but N; each check of a list with none but its own
+--   numbered-append          lists in a row
 --   absent, distinct         a number stands in no list; no number of a list is 0 or stands twice
 --   Others N Ns              N is none of the numbers, of which each is to be shown
 --   number-of, silent-as     equal refusals have equal numbers, and are silent together
@@ -232,6 +233,14 @@ Numbered [] [] = Unit
 Numbered [] (r ∷ rs) = ⊥
 Numbered (N ∷ Ns) [] = ⊥
 Numbered (N ∷ Ns) (r ∷ rs) = Only N r × Numbered Ns rs
+
+-- numbered lists in a row
+pub numbered-append : (Ns Ms : List ℕ) (rs ts : List Refusal) → Numbered Ns rs → Numbered Ms ts → Numbered (Ns ++ Ms) (rs ++ ts)
+unfolding Numbered
+numbered-append [] Ms [] ts o m = m
+numbered-append [] Ms (r ∷ rs) ts o m = absurd o
+numbered-append (N ∷ Ns) Ms [] ts o m = absurd o
+numbered-append (N ∷ Ns) Ms (r ∷ rs) ts o m = (o .0, numbered-append Ns Ms rs ts (o .1) m)
 
 -- N is none of the numbers
 abbrev pub absent : ℕ → List ℕ → Bool

@@ -196,14 +196,19 @@ offset-only len n q w =
     only-or _ _ (only-test 3 8 (badTable len q (q + 20 * n)))
     (only-or _ _ (only-test 3 12 (badTable len w (w + 4 * n))) (only-or _ _ (only-test 3 12 (overlap q (q + 20 * n) w (w + 4 * n))) (only-fine 3)))
 
+-- the numbers of the reader's checks, in order: each speaks with its own
+abbrev pub readNumbers : List ℕ
+readNumbers = 1 ∷ 2 ∷ 3 ∷ 4 ∷ 5 ∷ []
+
+pub read-numbered : (f : List ℕ) → Numbered readNumbers (readChecks f)
+unfolding Numbered
+read-numbered f = (length-only f, (count-only (countOf f), (offset-only (length f) (countOf f) (queuesAt f) (nodesAt f), (range-only (chainOf f) (queuesAt f) (nodesAt f), (order-only (chainOf f) (queuesAt f), tt)))))
+
 -- a file is refused with a number exactly when no earlier check speaks and the number's own condition holds
 module _ (f : List ℕ) (L : ℕ) where
-  -- check k of the reader's list is number k + 1
-  read-at : (k : ℕ) → k < 5 → (readRefusal f ≡ refused (getD (1 ∷ 2 ∷ 3 ∷ 4 ∷ 5 ∷ []) k 0) L) ↔ (Silents (take k (readChecks f)) × (getD (readChecks f) k fine ≡ refused (getD (1 ∷ 2 ∷ 3 ∷ 4 ∷ 5 ∷ []) k 0) L))
-  unfolding readRefusal Numbered
-  read-at k l = exact-at (1 ∷ 2 ∷ 3 ∷ 4 ∷ 5 ∷ []) (readChecks f)
-      (length-only f, (count-only (countOf f), (offset-only (length f) (countOf f) (queuesAt f) (nodesAt f), (range-only (chainOf f) (queuesAt f) (nodesAt f), (order-only (chainOf f) (queuesAt f), tt)))))
-      tt k L l
+  read-at : (k : ℕ) → k < 5 → (readRefusal f ≡ refused (getD readNumbers k 0) L) ↔ (Silents (take k (readChecks f)) × (getD (readChecks f) k fine ≡ refused (getD readNumbers k 0) L))
+  unfolding readRefusal
+  read-at k l = exact-at readNumbers (readChecks f) (read-numbered f) tt k L l
 
   pub read-1 : (readRefusal f ≡ refused 1 L) ↔ (BadLength f × (L ≡ 0))
   unfolding Silents

@@ -31,9 +31,9 @@ use Rattle.words.specs.Flat.{flat, flat-length}
 use Rattle.words.specs.Words.{bytesOf, bytes-append, bytes-length}
 use Rattle.words.specs.Rows.{row}
 use Rattle.chain.specs.Tests.{Out, below-true}
-use Rattle.chain.specs.Refusals.{Silents, Numbered, exact-at, refused, fine, test, first, orElse, first-append, test-alone, Only, only-test, test-exact}
+use Rattle.chain.specs.Refusals.{Silents, Numbered, exact-at, refused, fine, test, first, orElse, first-append, test-alone, Only, only-test, test-exact, numbered-append}
 use Rattle.chain.specs.Record.{rowOf, workOf}
-use Rattle.chain.specs.Checks.{countCheck, chainChecks, rangeCheck, orderCheck, recordRange, recordOrder, fields, FirstOut, FirstOver, count-exact, range-exact, order-exact, count-only, range-only, order-only}
+use Rattle.chain.specs.Checks.{countCheck, chainChecks, rangeCheck, orderCheck, recordRange, recordOrder, fields, FirstOut, FirstOver, count-exact, range-exact, order-exact, chainNumbers, chain-numbered}
 use Rattle.chain.specs.declared.Refusal.{Refusal}
 use Rattle.chain.specs.declared.Chain.{Chain}
 use Rattle.chainfile.specs.declared.LengthAnswer.{LengthAnswer}
@@ -109,13 +109,19 @@ room-only need room = only-test 10 need (ltb room need)
 pub room-last : (rs : List Refusal) (need room : ℕ) → first (rs ++ (roomCheck need room ∷ [])) ≡ orElse (first rs) (roomCheck need room)
 room-last rs need room = first-append rs (roomCheck need room ∷ []) ∙ ap (orElse (first rs)) (sym (test-alone 10 need (λ e. omega arith) (ltb room need)))
 
+-- the numbers of the writer's checks, in order: each speaks with its own
+abbrev pub writeNumbers : List ℕ
+writeNumbers = chainNumbers ++ (10 ∷ [])
+
+pub write-numbered : (c : Chain) (room : ℕ) → Numbered writeNumbers (writeChecks c room)
+unfolding Numbered
+write-numbered c room = numbered-append chainNumbers (10 ∷ []) (chainChecks c) (roomCheck (packedLength (c .n)) room ∷ []) (chain-numbered c) (room-only (packedLength (c .n)) room, tt)
+
 -- a chain is refused with a number exactly when no earlier check speaks and the number's own condition holds
 module _ (c : Chain) (room L : ℕ) where
-  write-at : (k : ℕ) → k < 4 → (writeRefusal c room ≡ refused (getD (2 ∷ 4 ∷ 5 ∷ 10 ∷ []) k 0) L) ↔ (Silents (take k (writeChecks c room)) × (getD (writeChecks c room) k fine ≡ refused (getD (2 ∷ 4 ∷ 5 ∷ 10 ∷ []) k 0) L))
-  unfolding writeRefusal Numbered
-  write-at k l = exact-at (2 ∷ 4 ∷ 5 ∷ 10 ∷ []) (writeChecks c room)
-      (count-only (c .n), (range-only c 20 (20 + 20 * c .n), (order-only c 20, (room-only (packedLength (c .n)) room, tt))))
-      tt k L l
+  write-at : (k : ℕ) → k < 4 → (writeRefusal c room ≡ refused (getD writeNumbers k 0) L) ↔ (Silents (take k (writeChecks c room)) × (getD (writeChecks c room) k fine ≡ refused (getD writeNumbers k 0) L))
+  unfolding writeRefusal
+  write-at k l = exact-at writeNumbers (writeChecks c room) (write-numbered c room) tt k L l
 
   pub write-2 : (writeRefusal c room ≡ refused 2 L) ↔ (Out 1 16 (c .n) × (L ≡ 0))
   unfolding Silents

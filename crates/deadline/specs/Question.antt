@@ -18,7 +18,7 @@
 --   dated-had, dated-never     what datedOf is where 13 is silent, and where it speaks
 --   dated-exact                it is never exactly when 13 speaks
 use mathlib.Core.Path.{_≡_, refl, sym, _∙_}
-use mathlib.Core.Logic.{_↔_, _≢_, _⊎_, inl, ⊎-elim, Iff·trans, Iff·and, Iff·rfl}
+use mathlib.Core.Logic.{_↔_, _≢_, _⊎_, Iff·trans, Iff·and, Iff·rfl}
 use mathlib.Core.Bool.{false, cond, _||_}
 use mathlib.Core.List.{List, [], _∷_, _++_}
 use Prim.Native.Nat.{ℕ, zero, suc, _+_, _-_, _*_, _^_, _≤_, _<_}
@@ -28,13 +28,12 @@ use lib.Dec.{ltb, eqb}
 use lib.ListN.{getD, take}
 use borrow.Author.Tests.{eq-eqb, ne-eqb, eqb-false}
 use Rattle.chain.specs.Tests.{below-true, below-false, equal-true, or-true, or-false}
-use Rattle.chain.specs.Refusals.{refused, fine, test, first, orElse, first-append, Silent, Silents, or-silents, silent-as, first-silent, Numbered, exact-at, Only, only-test, test-exact, test-silent, said-earlier}
+use Rattle.chain.specs.Refusals.{refused, fine, test, first, orElse, first-append, Silent, Silents, or-silents, silent-as, first-silent, Numbered, exact-at, Only, only-test, test-exact, test-silent, said-earlier, numbered-append}
 use Rattle.chain.specs.Record.{rowOf}
 use Rattle.chain.specs.Sound.{Sound}
-use Rattle.chain.specs.Checks.{count-only, range-only, order-only}
 use Rattle.chain.specs.declared.Refusal.{Refusal}
 use Rattle.chain.specs.declared.Chain.{Chain}
-use Rattle.sizing.specs.Checks.{limit, Enough, runChecks, runRefusal, rate-only, load-only, capacity-only}
+use Rattle.sizing.specs.Checks.{limit, Enough, runChecks, runRefusal, runNumbers, run-numbered}
 use Rattle.sizing.specs.Accepted.{Accepted, run-accepts}
 use Rattle.deadlines.specs.Deadline.{earlier, deadline, indexCheck, index, FirstPassing, index-exact, index-silent, index-only}
 use Rattle.deadline.specs.declared.DeadlineAnswer.{DeadlineAnswer}
@@ -106,33 +105,38 @@ module _ (c : Chain) (i k : ℕ) where
   unfolding deadlineRefusal runRefusal first
   deadline-parts = first-append (runChecks c) (askCheck c i k ∷ indexCheck c i k ∷ [])
 
+-- the numbers of its checks, in order: each speaks with its own
+abbrev pub askNumbers : List ℕ
+askNumbers = 11 ∷ 13 ∷ []
+
+abbrev pub deadlineNumbers : List ℕ
+deadlineNumbers = runNumbers ++ askNumbers
+
+module _ (c : Chain) (i k : ℕ) where
+  ask-numbered : Numbered askNumbers (askCheck c i k ∷ indexCheck c i k ∷ [])
+  unfolding Numbered
+  ask-numbered = (ask-only c i k, (index-only c i k, tt))
+
+  pub deadline-numbered : Numbered deadlineNumbers (deadlineChecks c i k)
+  deadline-numbered = numbered-append runNumbers askNumbers (runChecks c) (askCheck c i k ∷ indexCheck c i k ∷ []) (run-numbered c) ask-numbered
+
 -- a question is refused with a number exactly when no earlier check speaks and the number's own condition holds
 module _ (c : Chain) (i k L : ℕ) where
-  -- the numbers of its checks, in order: each speaks with its own
-  order : List ℕ
-  order = 2 ∷ 4 ∷ 5 ∷ 6 ∷ 7 ∷ 8 ∷ 11 ∷ 13 ∷ []
-
-  each : Numbered order (deadlineChecks c i k)
-  unfolding Numbered order
-  each = (count-only (c .n), (range-only c 20 (20 + 20 * c .n), (order-only c 20, (rate-only c, (load-only c, (capacity-only c, (ask-only c i k, (index-only c i k, tt))))))))
-
-  deadline-at : (m : ℕ) → m < 8 → (deadlineRefusal c i k ≡ refused (getD order m 0) L) ↔ (Silents (take m (deadlineChecks c i k)) × (getD (deadlineChecks c i k) m fine ≡ refused (getD order m 0) L))
-  unfolding deadlineRefusal order
-  deadline-at m l = exact-at order (deadlineChecks c i k) each tt m L l
+  deadline-at : (m : ℕ) → m < 8 → (deadlineRefusal c i k ≡ refused (getD deadlineNumbers m 0) L) ↔ (Silents (take m (deadlineChecks c i k)) × (getD (deadlineChecks c i k) m fine ≡ refused (getD deadlineNumbers m 0) L))
+  unfolding deadlineRefusal
+  deadline-at m l = exact-at deadlineNumbers (deadlineChecks c i k) (deadline-numbered c i k) tt m L l
 
   pub deadline-11 : (deadlineRefusal c i k ≡ refused 11 L) ↔ (Silents (runChecks c) × (((c .n < i) ⊎ (k ≡ 0)) × (L ≡ i)))
-  unfolding order
   deadline-11 = Iff·trans (deadline-at 6 (omega arith)) (Iff·and Iff·rfl (ask-exact c i k L))
 
   pub deadline-13 : (deadlineRefusal c i k ≡ refused 13 L) ↔ (Silents (runChecks c ++ (askCheck c i k ∷ [])) × FirstPassing c i k L)
-  unfolding order
   deadline-13 = Iff·trans (deadline-at 7 (omega arith)) (Iff·and Iff·rfl (index-exact c i k L))
 
   -- what is said of every run stands, and nothing else has its numbers
   pub deadline-earlier : (N : ℕ) → N ≢ 0 → N < 9 → (deadlineRefusal c i k ≡ refused N L) ↔ (runRefusal c ≡ refused N L)
-  unfolding deadlineRefusal runRefusal Numbered
+  unfolding deadlineRefusal runRefusal
   deadline-earlier N some low =
-      said-earlier N L some (runChecks c) (11 ∷ 13 ∷ []) (askCheck c i k ∷ indexCheck c i k ∷ []) (ask-only c i k, (index-only c i k, tt)) (λ e. omega arith, (λ e. omega arith, tt))
+      said-earlier N L some (runChecks c) askNumbers (askCheck c i k ∷ indexCheck c i k ∷ []) (ask-numbered c i k) (λ e. omega arith, (λ e. omega arith, tt))
 
 module _ (c : Chain) (i k : ℕ) where
   -- a question is not refused exactly when the chain may run, the node and the firing exist, and every index on the way down is within the limit

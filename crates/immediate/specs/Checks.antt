@@ -14,7 +14,7 @@
 --   immediate-accepts          it is not refused exactly when the chain is accepted, its capacities are enough, and no count passes the limit
 --   immediate-ran, -refused    the state that it gives
 use mathlib.Core.Path.{_≡_, refl, sym, ap, _∙_}
-use mathlib.Core.Logic.{_↔_, _≢_, inl, ⊎-elim, Iff·trans, Iff·and, Iff·rfl}
+use mathlib.Core.Logic.{_↔_, _≢_, Iff·trans, Iff·and, Iff·rfl}
 use mathlib.Core.List.{List, [], _∷_, _++_}
 use Prim.Native.Nat.{ℕ, suc, _+_, _*_, _≤_, _<_}
 use native.Mathlib.Omega.{arith}
@@ -22,11 +22,10 @@ use lib.Dec.{ltb}
 use borrow.Author.Tests.{eq-eqb, ne-eqb}
 use Rattle.words.specs.Table.{tab}
 use Rattle.chain.specs.Tests.{below-true, below-false}
-use Rattle.chain.specs.Refusals.{refused, test, first, orElse, first-append, first-last, Silent, Silents, Numbered, exact-at, or-silents, silent-as, Lowest, lowest-is, Only, only-test, only-tab, test-exact, test-silent, all-silent, said-earlier}
+use Rattle.chain.specs.Refusals.{refused, test, first, orElse, first-append, first-last, Silent, Silents, Numbered, exact-at, or-silents, silent-as, Lowest, lowest-is, Only, only-test, only-tab, test-exact, test-silent, all-silent, said-earlier, numbered-append}
 use Rattle.chain.specs.declared.Refusal.{Refusal}
 use Rattle.chain.specs.declared.Chain.{Chain}
-use Rattle.chain.specs.Checks.{count-only, range-only, order-only}
-use Rattle.sizing.specs.Checks.{Enough, runChecks, runRefusal, rate-only, load-only, capacity-only}
+use Rattle.sizing.specs.Checks.{Enough, runChecks, runRefusal, runNumbers, run-numbered}
 use Rattle.sizing.specs.Accepted.{Accepted, run-accepts}
 use Rattle.state.specs.State.{emptyRun, freshRun, answered}
 use Rattle.state.specs.declared.RunAnswer.{RunAnswer}
@@ -50,6 +49,10 @@ lengthCheck c k = first (tab (suc (c .n)) (lengthTest c k))
 -- the checks of every run, then 9
 abbrev pub immediateChecks : Chain → ℕ → List Refusal
 immediateChecks c k = runChecks c ++ (lengthCheck c k ∷ [])
+
+-- and their numbers
+abbrev pub immediateNumbers : List ℕ
+immediateNumbers = runNumbers ++ (9 ∷ [])
 
 -- what an immediate run is refused with
 unfoldable pub immediateRefusal : Chain → ℕ → Refusal
@@ -99,16 +102,13 @@ module _ (c : Chain) (k : ℕ) where
   immediate-parts = first-append (runChecks c) (lengthCheck c k ∷ []) ∙ ap (orElse (first (runChecks c))) (first-last (tab (suc (c .n)) (lengthTest c k)))
 
   -- the numbers of its checks, in order: each speaks with its own
-  order : List ℕ
-  order = 2 ∷ 4 ∷ 5 ∷ 6 ∷ 7 ∷ 8 ∷ 9 ∷ []
-
-  each : Numbered order (immediateChecks c k)
-  unfolding Numbered order
-  each = (count-only (c .n), (range-only c 20 (20 + 20 * c .n), (order-only c 20, (rate-only c, (load-only c, (capacity-only c, (length-only, tt)))))))
+  pub immediate-numbered : Numbered immediateNumbers (immediateChecks c k)
+  unfolding Numbered
+  immediate-numbered = numbered-append runNumbers (9 ∷ []) (runChecks c) (lengthCheck c k ∷ []) (run-numbered c) (length-only, tt)
 
   pub immediate-9 : (L : ℕ) → (immediateRefusal c k ≡ refused 9 L) ↔ (Silents (runChecks c) × FirstTooLong c k L)
-  unfolding immediateRefusal order
-  immediate-9 L = Iff·trans (exact-at order (immediateChecks c k) each tt 6 L (omega arith)) (Iff·and Iff·rfl (length-exact L))
+  unfolding immediateRefusal
+  immediate-9 L = Iff·trans (exact-at immediateNumbers (immediateChecks c k) immediate-numbered tt 6 L (omega arith)) (Iff·and Iff·rfl (length-exact L))
 
   -- every other number is said exactly when it is said of every run
   pub immediate-earlier : (N L : ℕ) → N ≢ 0 → N ≢ 9 → (immediateRefusal c k ≡ refused N L) ↔ (runRefusal c ≡ refused N L)

@@ -25,7 +25,7 @@
 --   tick-ran, -refused         what a tick answers
 --   deadline-run-ran, -refused what a deadline run answers
 use mathlib.Core.Path.{_≡_, refl, sym, ap, _∙_}
-use mathlib.Core.Logic.{_↔_, _≢_, _⊎_, inl, ⊎-elim, Iff·trans, Iff·and, Iff·rfl}
+use mathlib.Core.Logic.{_↔_, _≢_, _⊎_, Iff·trans, Iff·and, Iff·rfl}
 use mathlib.Core.List.{List, [], _∷_, _++_}
 use Prim.Native.Nat.{ℕ, suc, _+_, _*_, _≤_, _<_}
 use native.Mathlib.Omega.{arith}
@@ -34,11 +34,10 @@ use lib.ListN.{getD, take}
 use borrow.Author.Tests.{ne-eqb, eqb-false}
 use Rattle.words.specs.Table.{tab}
 use Rattle.chain.specs.Tests.{below-true, below-false, upto-true, upto-false, equal-true, sum-iff}
-use Rattle.chain.specs.Refusals.{refused, fine, first, orElse, first-append, first-last, first-fine, Silent, Silents, Numbered, exact-at, or-says, or-silents, silent-as, Lowest, lowest-is, Only, only-test, only-tab, only-or, test-exact, test-silent, test-alone, all-silent, said-earlier}
-use Rattle.chain.specs.Checks.{count-only, range-only, order-only}
+use Rattle.chain.specs.Refusals.{refused, fine, first, orElse, first-append, first-last, first-fine, Silent, Silents, Numbered, exact-at, or-says, or-silents, silent-as, Lowest, lowest-is, Only, only-test, only-tab, only-or, test-exact, test-silent, test-alone, all-silent, said-earlier, numbered-append}
 use Rattle.chain.specs.declared.Refusal.{Refusal}
 use Rattle.chain.specs.declared.Chain.{Chain}
-use Rattle.sizing.specs.Checks.{limit, Enough, runChecks, runRefusal, rate-only, load-only, capacity-only}
+use Rattle.sizing.specs.Checks.{limit, Enough, runChecks, runRefusal, runNumbers, run-numbered}
 use Rattle.sizing.specs.Accepted.{Accepted, run-accepts}
 use Rattle.state.specs.State.{countAt, emptyRun, freshRun}
 use Rattle.state.specs.Checks.{stateCheck, FirstBroken, StateSound, state-exact, state-silent, state-only}
@@ -133,6 +132,16 @@ length-silent T = Iff·trans (test-silent 9 0 (λ e. omega arith) _) (below-fals
 pub length-only : (T : ℕ) → Only 9 (lengthCheck T)
 length-only T = only-test 9 0 (ltb longest T)
 
+-- the numbers of a tick's own checks, both of 9 as one, of all its checks, and of a deadline run's
+abbrev ownNumbers : List ℕ
+ownNumbers = 17 ∷ 9 ∷ []
+
+abbrev pub tickNumbers : List ℕ
+tickNumbers = runNumbers ++ (17 ∷ 9 ∷ 9 ∷ [])
+
+abbrev pub deadlineRunNumbers : List ℕ
+deadlineRunNumbers = runNumbers ++ (9 ∷ [])
+
 -- a tick is refused with a number exactly when no earlier check speaks and the number's own condition holds
 module _ (c : Chain) (s : Run) where
   -- the checks of a run, then 17, then both of 9
@@ -157,32 +166,38 @@ module _ (c : Chain) (s : Run) where
       nine-last = first-last (clockCheck s ∷ tab (suc (c .n)) (spentTest s))
 
   -- the numbers of these, in order: each speaks with its own
-  order : List ℕ
-  order = 2 ∷ 4 ∷ 5 ∷ 6 ∷ 7 ∷ 8 ∷ 17 ∷ 9 ∷ []
+  own-numbered : Numbered ownNumbers (stateCheck c s ∷ nineCheck c s ∷ [])
+  unfolding Numbered
+  own-numbered = (state-only c s, (nine-only c s, tt))
 
-  each : Numbered order joined
-  unfolding Numbered order joined
-  each = (count-only (c .n), (range-only c 20 (20 + 20 * c .n), (order-only c 20, (rate-only c, (load-only c, (capacity-only c, (state-only c s, (nine-only c s, tt))))))))
+  joined-numbered : Numbered (runNumbers ++ ownNumbers) joined
+  unfolding joined
+  joined-numbered = numbered-append runNumbers ownNumbers (runChecks c) (stateCheck c s ∷ nineCheck c s ∷ []) (run-numbered c) own-numbered
 
-  tick-at : (k L : ℕ) → k < 8 → (tickRefusal c s ≡ refused (getD order k 0) L) ↔ (Silents (take k joined) × (getD joined k fine ≡ refused (getD order k 0) L))
-  unfolding order joined
-  tick-at k L l = rw tick-joined (exact-at order joined each tt k L l)
+  -- and with both of 9 apart
+  pub tick-numbered : Numbered tickNumbers (tickChecks c s)
+  unfolding Numbered
+  tick-numbered = numbered-append runNumbers (17 ∷ 9 ∷ 9 ∷ []) (runChecks c) (stateCheck c s ∷ clockCheck s ∷ spentCheck c s ∷ []) (run-numbered c) (state-only c s, (clock-only s, (spent-only c s, tt)))
+
+  tick-at : (k L : ℕ) → k < 8 → (tickRefusal c s ≡ refused (getD (runNumbers ++ ownNumbers) k 0) L) ↔ (Silents (take k joined) × (getD joined k fine ≡ refused (getD (runNumbers ++ ownNumbers) k 0) L))
+  unfolding joined
+  tick-at k L l = rw tick-joined (exact-at (runNumbers ++ ownNumbers) joined joined-numbered tt k L l)
 
   -- 17
   pub tick-17 : (L : ℕ) → (tickRefusal c s ≡ refused 17 L) ↔ (Silents (runChecks c) × FirstBroken c s L)
-  unfolding order joined
+  unfolding joined
   tick-17 L = Iff·trans (tick-at 6 L (omega arith)) (Iff·and Iff·rfl (state-exact c s L))
 
   -- 9
   pub tick-9 : (L : ℕ) → (tickRefusal c s ≡ refused 9 L) ↔ (Silents (runChecks c ++ (stateCheck c s ∷ [])) × LateOrSpent c s L)
-  unfolding order joined
+  unfolding joined
   tick-9 L = Iff·trans (tick-at 7 L (omega arith)) (Iff·and Iff·rfl (nine-exact c s L))
 
   -- every other number, so each of 2 to 8, is said exactly when it is said of every run
   pub tick-earlier : (N L : ℕ) → N ≢ 0 → N ≢ 17 → N ≢ 9 → (tickRefusal c s ≡ refused N L) ↔ (runRefusal c ≡ refused N L)
-  unfolding joined runRefusal Numbered
+  unfolding joined runRefusal
   tick-earlier N L some other nor =
-      rw tick-joined (said-earlier N L some (runChecks c) (17 ∷ 9 ∷ []) (stateCheck c s ∷ nineCheck c s ∷ []) (state-only c s, (nine-only c s, tt)) (λ e. other (sym e), (λ e. nor (sym e), tt)))
+      rw tick-joined (said-earlier N L some (runChecks c) ownNumbers (stateCheck c s ∷ nineCheck c s ∷ []) own-numbered (λ e. other (sym e), (λ e. nor (sym e), tt)))
 
   -- a tick is not refused exactly when the chain is accepted with capacities that are enough, the state passes 17, and clock and counts can grow
   pub tick-accepts : Silent (tickRefusal c s) ↔ ((Accepted c × ((i : ℕ) → i < c .n → Enough c i)) × (StateSound c s × ((s .clock < longest) × ((i : ℕ) → i ≤ c .n → countAt s i ≢ limit))))
@@ -212,18 +227,15 @@ module _ (c : Chain) (T : ℕ) where
   unfolding deadlineRunRefusal runRefusal first
   deadline-run-parts = first-append (runChecks c) (lengthCheck T ∷ []) ∙ ap (orElse (first (runChecks c))) (sym (test-alone 9 0 (λ e. omega arith) (ltb longest T)))
 
-  -- the numbers of its checks, in order: each speaks with its own
-  run-order : List ℕ
-  run-order = 2 ∷ 4 ∷ 5 ∷ 6 ∷ 7 ∷ 8 ∷ 9 ∷ []
-
-  run-each : Numbered run-order (deadlineRunChecks c T)
-  unfolding Numbered run-order
-  run-each = (count-only (c .n), (range-only c 20 (20 + 20 * c .n), (order-only c 20, (rate-only c, (load-only c, (capacity-only c, (length-only T, tt)))))))
+  -- each speaks with its own number
+  pub deadline-run-numbered : Numbered deadlineRunNumbers (deadlineRunChecks c T)
+  unfolding Numbered
+  deadline-run-numbered = numbered-append runNumbers (9 ∷ []) (runChecks c) (lengthCheck T ∷ []) (run-numbered c) (length-only T, tt)
 
   -- 9
   pub deadline-run-9 : (L : ℕ) → (deadlineRunRefusal c T ≡ refused 9 L) ↔ (Silents (runChecks c) × ((longest < T) × (L ≡ 0)))
-  unfolding deadlineRunRefusal run-order
-  deadline-run-9 L = Iff·trans (exact-at run-order (deadlineRunChecks c T) run-each tt 6 L (omega arith)) (Iff·and Iff·rfl (length-exact T L))
+  unfolding deadlineRunRefusal
+  deadline-run-9 L = Iff·trans (exact-at deadlineRunNumbers (deadlineRunChecks c T) deadline-run-numbered tt 6 L (omega arith)) (Iff·and Iff·rfl (length-exact T L))
 
   -- every other number, so each of 2 to 8, is said exactly when it is said of every run
   pub deadline-run-earlier : (N L : ℕ) → N ≢ 0 → N ≢ 9 → (deadlineRunRefusal c T ≡ refused N L) ↔ (runRefusal c ≡ refused N L)

@@ -13,10 +13,10 @@ use Prim.Native.Nat.{ℕ, _<_}
 use native.Mathlib.Omega.{arith}
 use lib.ListN.{length, getD, take}
 use Rattle.chain.specs.Tests.{Out}
-use Rattle.chain.specs.Refusals.{Silents, Numbered, exact-at, refused, fine, first, orElse, first-append}
-use Rattle.chain.specs.Checks.{countCheck, fields, FirstOut, FirstOver, count-exact, range-exact, order-exact, count-only, range-only, order-only}
+use Rattle.chain.specs.Refusals.{Silents, Numbered, exact-at, refused, fine, first, orElse, first-append, numbered-append}
+use Rattle.chain.specs.Checks.{countCheck, fields, FirstOut, FirstOver, count-exact, range-exact, order-exact}
 use Rattle.chain.specs.declared.Refusal.{Refusal}
-use Rattle.chainfile.specs.File.{countOf, queuesAt, nodesAt, chainOf, lengthCheck, fileOffsets, fileRange, readChecks, readRefusal, BadLength, BadTables, length-exact, offset-exact, length-only, offset-only}
+use Rattle.chainfile.specs.File.{countOf, queuesAt, nodesAt, chainOf, lengthCheck, fileOffsets, fileRange, readChecks, readRefusal, BadLength, BadTables, length-exact, offset-exact, readNumbers, read-numbered}
 use Rattle.chainfile.specs.Packed.{roomCheck, room-exact, room-only, room-last}
 use Rattle.sizing.specs.Load.{busyIn, busyOf, cycleOf}
 use Rattle.sizing.specs.Sizes.{analysisOf}
@@ -35,21 +35,20 @@ unfoldable pub reportRefusal : List ℕ → ℕ → Refusal
 unfolding first readRefusal rateCheck busyIn analysisOf textOf
 reportRefusal f room = first (reportChecks f room)
 
--- their numbers, in order
-abbrev order : List ℕ
-order = 1 ∷ 2 ∷ 3 ∷ 4 ∷ 5 ∷ 6 ∷ 7 ∷ 10 ∷ []
+-- their numbers, in order: each check speaks with its own
+abbrev pub reportNumbers : List ℕ
+reportNumbers = readNumbers ++ (6 ∷ 7 ∷ 10 ∷ [])
+
+pub report-numbered : (f : List ℕ) (room : ℕ) → Numbered reportNumbers (reportChecks f room)
+unfolding Numbered
+report-numbered f room =
+    numbered-append readNumbers (6 ∷ 7 ∷ 10 ∷ []) (readChecks f) (sizeChecks (chainOf f) ++ (roomCheck (length (reportText f)) room ∷ [])) (read-numbered f) (rate-only (chainOf f), (load-only (chainOf f), (room-only (length (reportText f)) room, tt)))
 
 -- a file is refused with a number exactly when no earlier check speaks and the number's own condition holds
 module _ (f : List ℕ) (room L : ℕ) where
-  each : Numbered order (reportChecks f room)
-  unfolding Numbered
-  each =
-      let c = chainOf f in
-      (length-only f, (count-only (countOf f), (offset-only _ _ _ _, (range-only c _ _, (order-only c _, (rate-only c, (load-only c, (room-only _ room, tt))))))))
-
-  report-at : (k : ℕ) → k < 8 → (reportRefusal f room ≡ refused (getD order k 0) L) ↔ (Silents (take k (reportChecks f room)) × (getD (reportChecks f room) k fine ≡ refused (getD order k 0) L))
+  report-at : (k : ℕ) → k < 8 → (reportRefusal f room ≡ refused (getD reportNumbers k 0) L) ↔ (Silents (take k (reportChecks f room)) × (getD (reportChecks f room) k fine ≡ refused (getD reportNumbers k 0) L))
   unfolding reportRefusal
-  report-at k l = exact-at order (reportChecks f room) each tt k L l
+  report-at k l = exact-at reportNumbers (reportChecks f room) (report-numbered f room) tt k L l
 
   pub report-1 : (reportRefusal f room ≡ refused 1 L) ↔ (BadLength f × (L ≡ 0))
   unfolding Silents

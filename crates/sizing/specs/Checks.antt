@@ -25,7 +25,7 @@
 --                              when a chain is refused with each number
 use mathlib.Core.Path.{_≡_, refl, sym, ap, _∙_}
 use mathlib.Core.Bool.{Bool, true, false, cond, not, _||_, _&&_}
-use mathlib.Core.Logic.{_↔_, _≢_, _⊎_, inl, ⊎-elim, Iff·trans, Iff·and, Iff·rfl, true-and}
+use mathlib.Core.Logic.{_↔_, _≢_, _⊎_, ⊎-elim, Iff·trans, Iff·and, Iff·rfl, true-and}
 use mathlib.Core.List.{List, [], _∷_, _++_}
 use Prim.Native.Nat.{ℕ, zero, suc, _+_, _*_, _^_, _≤_, _<_}
 use native.Mathlib.Nat.{le-refl}
@@ -35,9 +35,9 @@ use borrow.Author.Tests.{le-ltb, eq-eqb}
 use lib.ListN.{getD, take}
 use Rattle.words.specs.Table.{tab, tab-alike}
 use Rattle.chain.specs.Tests.{Out, below-true, below-false, differ-true, differ-false, or-true, or-false, and-true, and-false}
-use Rattle.chain.specs.Refusals.{refused, fine, test, first, orElse, first-append, first-last, Silent, Silents, Numbered, exact-at, Lowest, lowest-is, Only, only-test, only-tab, test-exact, test-silent, all-silent, said-earlier}
+use Rattle.chain.specs.Refusals.{refused, fine, test, first, orElse, first-append, first-last, Silent, Silents, Numbered, exact-at, Lowest, lowest-is, Only, only-test, only-tab, test-exact, test-silent, all-silent, said-earlier, numbered-append}
 use Rattle.chain.specs.Record.{rowOf}
-use Rattle.chain.specs.Checks.{countCheck, rangeCheck, orderCheck, recordRange, chainChecks, chainRefusal, fields, FirstOut, FirstOver, count-exact, range-exact, order-exact, count-only, range-only, order-only}
+use Rattle.chain.specs.Checks.{countCheck, rangeCheck, orderCheck, recordRange, chainChecks, chainRefusal, fields, FirstOut, FirstOver, count-exact, range-exact, order-exact, chainNumbers, chain-numbered}
 use Rattle.chain.specs.declared.Refusal.{Refusal}
 use Rattle.chain.specs.declared.Chain.{Chain}
 use Rattle.onequeue.specs.Capacity.{capacity}
@@ -258,47 +258,46 @@ module _ (c : Chain) where
   unfolding capacityCheck
   capacity-only = only-tab 8 (capacityTest c) (λ i. only-test 8 i (not (eqb (rowOf c i .capacity) 0) && ltb (rowOf c i .capacity) (minimumOf (rowOf c i)))) (c .n)
 
+-- the numbers of the checks of an analysis and of a run, in order: each speaks with its own
+abbrev pub analyseNumbers : List ℕ
+analyseNumbers = chainNumbers ++ (6 ∷ 7 ∷ [])
+
+abbrev pub runNumbers : List ℕ
+runNumbers = analyseNumbers ++ (8 ∷ [])
+
+pub analyse-numbered : (c : Chain) → Numbered analyseNumbers (analyseChecks c)
+unfolding Numbered
+analyse-numbered c = numbered-append chainNumbers (6 ∷ 7 ∷ []) (chainChecks c) (sizeChecks c) (chain-numbered c) (rate-only c, (load-only c, tt))
+
+pub run-numbered : (c : Chain) → Numbered runNumbers (runChecks c)
+unfolding Numbered
+run-numbered c = numbered-append analyseNumbers (8 ∷ []) (analyseChecks c) (capacityCheck c ∷ []) (analyse-numbered c) (capacity-only c, tt)
+
 -- a chain is refused with a number exactly when no earlier check speaks and the number's own condition holds
 module _ (c : Chain) (L : ℕ) where
-  -- the numbers of a run's checks, in order: each speaks with its own; those of the analysis are the first five
-  order : List ℕ
-  order = 2 ∷ 4 ∷ 5 ∷ 6 ∷ 7 ∷ 8 ∷ []
-
-  each : Numbered order (runChecks c)
-  unfolding Numbered order
-  each = (count-only (c .n), (range-only c 20 (20 + 20 * c .n), (order-only c 20, (rate-only c, (load-only c, (capacity-only c, tt))))))
-
-  five : Numbered (take 5 order) (analyseChecks c)
-  unfolding Numbered order
-  five = (each .0, (each .1 .0, (each .1 .1 .0, (each .1 .1 .1 .0, (each .1 .1 .1 .1 .0, tt)))))
-
-  analyse-at : (k : ℕ) → k < 5 → (analyseRefusal c ≡ refused (getD (take 5 order) k 0) L) ↔ (Silents (take k (analyseChecks c)) × (getD (analyseChecks c) k fine ≡ refused (getD (take 5 order) k 0) L))
-  unfolding analyseRefusal order
-  analyse-at k l = exact-at (take 5 order) (analyseChecks c) five tt k L l
+  analyse-at : (k : ℕ) → k < 5 → (analyseRefusal c ≡ refused (getD analyseNumbers k 0) L) ↔ (Silents (take k (analyseChecks c)) × (getD (analyseChecks c) k fine ≡ refused (getD analyseNumbers k 0) L))
+  unfolding analyseRefusal
+  analyse-at k l = exact-at analyseNumbers (analyseChecks c) (analyse-numbered c) tt k L l
 
   pub analyse-2 : (analyseRefusal c ≡ refused 2 L) ↔ (Out 1 16 (c .n) × (L ≡ 0))
-  unfolding Silents order
+  unfolding Silents
   analyse-2 = Iff·trans (analyse-at 0 (omega arith)) (Iff·trans true-and (count-exact L (c .n)))
 
   pub analyse-4 : (analyseRefusal c ≡ refused 4 L) ↔ (Silents (countCheck (c .n) ∷ []) × FirstOut (fields c 20 (20 + 20 * c .n)) L)
-  unfolding order
   analyse-4 = Iff·trans (analyse-at 1 (omega arith)) (Iff·and Iff·rfl (range-exact L c 20 (20 + 20 * c .n)))
 
   pub analyse-5 : (analyseRefusal c ≡ refused 5 L) ↔ (Silents (countCheck (c .n) ∷ recordRange c ∷ []) × FirstOver c 20 L)
-  unfolding order
   analyse-5 = Iff·trans (analyse-at 2 (omega arith)) (Iff·and Iff·rfl (order-exact L c 20))
 
   pub analyse-6 : (analyseRefusal c ≡ refused 6 L) ↔ (Silents (chainChecks c) × FirstTooLarge c L)
-  unfolding order
   analyse-6 = Iff·trans (analyse-at 3 (omega arith)) (Iff·and Iff·rfl (rate-exact c L))
 
   pub analyse-7 : (analyseRefusal c ≡ refused 7 L) ↔ (Silents (chainChecks c ++ (rateCheck c ∷ [])) × ((cycleOf c < busyOf c) × (L ≡ 0)))
-  unfolding order
   analyse-7 = Iff·trans (analyse-at 4 (omega arith)) (Iff·and Iff·rfl (load-exact c L))
 
   pub run-8 : (runRefusal c ≡ refused 8 L) ↔ (Silents (analyseChecks c) × FirstShort c L)
-  unfolding runRefusal order
-  run-8 = Iff·trans (exact-at order (runChecks c) each tt 5 L (omega arith)) (Iff·and Iff·rfl (capacity-exact c L))
+  unfolding runRefusal
+  run-8 = Iff·trans (exact-at runNumbers (runChecks c) (run-numbered c) tt 5 L (omega arith)) (Iff·and Iff·rfl (capacity-exact c L))
 
   -- every other number is said of a chain that is to be run exactly when the analysis says it
   pub run-earlier : (N : ℕ) → N ≢ 0 → N ≢ 8 → (runRefusal c ≡ refused N L) ↔ (analyseRefusal c ≡ refused N L)

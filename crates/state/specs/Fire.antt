@@ -14,20 +14,20 @@
 --   fire-accepted, fire-refused
 --                              the state that it gives back
 use mathlib.Core.Path.{_≡_, refl, sym, _∙_}
-use mathlib.Core.Logic.{_↔_, _≢_, _⊎_, inl, ⊎-elim, Iff·trans, Iff·and, Iff·rfl}
+use mathlib.Core.Logic.{_↔_, _≢_, _⊎_, Iff·trans, Iff·and, Iff·rfl}
 use mathlib.Core.List.{List, [], _∷_, _++_}
 use Prim.Native.Nat.{ℕ, zero, suc, _+_, _*_, _≤_, _<_}
 use native.Mathlib.Omega.{arith}
 use lib.ListN.{getD, take}
 use borrow.Author.Tests.{eq-eqb, ne-eqb}
-use Rattle.chain.specs.Refusals.{refused, fine, first, orElse, first-append, Silent, Silents, or-silents, silent-as, first-silent, Numbered, exact-at, said-earlier}
+use Rattle.chain.specs.Refusals.{refused, fine, first, orElse, first-append, Silent, Silents, or-silents, silent-as, first-silent, Numbered, exact-at, said-earlier, numbered-append}
 use Rattle.chain.specs.Record.{rowOf}
-use Rattle.chain.specs.Checks.{rangeCheck, orderCheck, count-only, range-only, order-only}
+use Rattle.chain.specs.Checks.{rangeCheck, orderCheck, count-only}
 use Rattle.chain.specs.declared.Refusal.{Refusal}
 use Rattle.chain.specs.declared.Chain.{Chain}
 use Rattle.sizing.specs.Load.{busyIn}
 use Rattle.sizing.specs.Sizes.{capacityOf}
-use Rattle.sizing.specs.Checks.{limit, analyseChecks, analyseRefusal, rateCheck, rate-only, load-only}
+use Rattle.sizing.specs.Checks.{limit, analyseChecks, analyseRefusal, rateCheck, analyseNumbers, analyse-numbered}
 use Rattle.sizing.specs.Accepted.{Accepted, analyse-accepts}
 use Rattle.state.specs.State.{countAt, heldAt, emptyRun, freshRun, answered}
 use Rattle.state.specs.Fired.{fired, Over, May}
@@ -91,41 +91,44 @@ module _ (c : Chain) (s : Run) (i : ℕ) where
   unfolding fireRefusal analyseRefusal first
   fire-parts = first-append (analyseChecks c) (stateCheck c s ∷ nodeChecks c s i)
 
+-- the numbers of its checks, in order: each speaks with its own
+abbrev pub nodeNumbers : List ℕ
+nodeNumbers = 17 ∷ 9 ∷ 11 ∷ 12 ∷ []
+
+abbrev pub fireNumbers : List ℕ
+fireNumbers = analyseNumbers ++ nodeNumbers
+
+module _ (c : Chain) (s : Run) (i : ℕ) where
+  node-numbered : Numbered nodeNumbers (stateCheck c s ∷ nodeChecks c s i)
+  unfolding Numbered
+  node-numbered = (state-only c s, (own.count-only c s i, (over-only c s i, (room-only c s i, tt))))
+
+  pub fire-numbered : Numbered fireNumbers (fireChecks c s i)
+  fire-numbered = numbered-append analyseNumbers nodeNumbers (analyseChecks c) (stateCheck c s ∷ nodeChecks c s i) (analyse-numbered c) node-numbered
+
 -- a firing is refused with a number exactly when no earlier check speaks and the number's own condition holds
 module _ (c : Chain) (s : Run) (i L : ℕ) where
-  order : List ℕ
-  order = 2 ∷ 4 ∷ 5 ∷ 6 ∷ 7 ∷ 17 ∷ 9 ∷ 11 ∷ 12 ∷ []
-
-  each : Numbered order (fireChecks c s i)
-  unfolding Numbered order
-  each = (count-only (c .n), (range-only c 20 (20 + 20 * c .n), (order-only c 20, (rate-only c, (load-only c, (state-only c s, (own.count-only c s i, (over-only c s i, (room-only c s i, tt)))))))))
-
-  fire-at : (k : ℕ) → k < 9 → (fireRefusal c s i ≡ refused (getD order k 0) L) ↔ (Silents (take k (fireChecks c s i)) × (getD (fireChecks c s i) k fine ≡ refused (getD order k 0) L))
-  unfolding fireRefusal order
-  fire-at k l = exact-at order (fireChecks c s i) each tt k L l
+  fire-at : (k : ℕ) → k < 9 → (fireRefusal c s i ≡ refused (getD fireNumbers k 0) L) ↔ (Silents (take k (fireChecks c s i)) × (getD (fireChecks c s i) k fine ≡ refused (getD fireNumbers k 0) L))
+  unfolding fireRefusal
+  fire-at k l = exact-at fireNumbers (fireChecks c s i) (fire-numbered c s i) tt k L l
 
   pub fire-17 : (fireRefusal c s i ≡ refused 17 L) ↔ (Silents (analyseChecks c) × FirstBroken c s L)
-  unfolding order
   fire-17 = Iff·trans (fire-at 5 (omega arith)) (Iff·and Iff·rfl (state-exact c s L))
 
   pub fire-9 : (fireRefusal c s i ≡ refused 9 L) ↔ (Silents (analyseChecks c ++ (stateCheck c s ∷ [])) × (((i ≤ c .n) × (countAt s i ≡ limit)) × (L ≡ i)))
-  unfolding order
   fire-9 = Iff·trans (fire-at 6 (omega arith)) (Iff·and Iff·rfl (own.count-exact c s i L))
 
   pub fire-11 : (fireRefusal c s i ≡ refused 11 L) ↔ (Silents (analyseChecks c ++ (stateCheck c s ∷ countCheck c s i ∷ [])) × (((c .n < i) ⊎ (Over c s i → ⊥)) × (L ≡ i)))
-  unfolding order
   fire-11 = Iff·trans (fire-at 7 (omega arith)) (Iff·and Iff·rfl (over-exact c s i L))
 
   pub fire-12 : (fireRefusal c s i ≡ refused 12 L) ↔ (Silents (analyseChecks c ++ (stateCheck c s ∷ countCheck c s i ∷ overCheck c s i ∷ [])) × (((i < c .n) × (capacityOf (rowOf c i) < heldAt s i + rowOf c i .produce)) × (L ≡ i)))
-  unfolding order
   fire-12 = Iff·trans (fire-at 8 (omega arith)) (Iff·and Iff·rfl (room-exact c s i L))
 
   -- what the analysis says stands, and nothing else has its numbers
   pub fire-earlier : (N : ℕ) → N ≢ 0 → N < 9 → (fireRefusal c s i ≡ refused N L) ↔ (analyseRefusal c ≡ refused N L)
-  unfolding fireRefusal analyseRefusal Numbered
+  unfolding fireRefusal analyseRefusal
   fire-earlier N some low =
-      said-earlier N L some (analyseChecks c) (17 ∷ 9 ∷ 11 ∷ 12 ∷ []) (stateCheck c s ∷ nodeChecks c s i) (state-only c s, (own.count-only c s i, (over-only c s i, (room-only c s i, tt))))
-      (λ e. omega arith, (λ e. omega arith, (λ e. omega arith, (λ e. omega arith, tt))))
+      said-earlier N L some (analyseChecks c) nodeNumbers (stateCheck c s ∷ nodeChecks c s i) (node-numbered c s i) (λ e. omega arith, (λ e. omega arith, (λ e. omega arith, (λ e. omega arith, tt))))
 
 module _ (c : Chain) (s : Run) (i : ℕ) where
   -- a firing is not refused exactly when the chain is accepted, the state passes 17, and the firing is one that may be
