@@ -1,3 +1,4 @@
+pub mod Records
 pub mod Chains
 pub mod Files
 pub mod Analyses

@@ -15,7 +15,7 @@ use lib.ListN.{length, getD}
 use Rattle.ardenquill.specs.Chains.{queue, made, factoryAnswer}
 use Rattle.ardenquill.specs.Runs.{fired, freshAnswer}
 use Rattle.ardenquill.specs.Histories.{after}
-use Rattle.chain.specs.declared.Chain.{Chain}
+use Rattle.ardenquill.specs.Records.{Chain}
 use Rattle.figures.specs.Questions.{Question, analyse, checkedForRun, fresh, fire, immediate, deadline, tick, deadlineRun, answerTo}
 
 -- the factory chains, and what the figures change in them

@@ -16,12 +16,7 @@ use Rattle.ardenquill.specs.Runs.{countAt, heldAt, doneAt, freshAnswer, fireAns
 use Rattle.ardenquill.specs.Immediate.{immediateAnswer}
 use Rattle.ardenquill.specs.Deadlines.{deadlineAnswer}
 use Rattle.ardenquill.specs.Ticks.{numberOf, valuesOf, tickAnswer, deadlineRunAnswer}
-use Rattle.chain.specs.declared.Chain.{Chain}
-use Rattle.sizing.specs.declared.QueueSize.{QueueSize}
-use Rattle.sizing.specs.declared.AnalysisAnswer.{AnalysisAnswer}
-use Rattle.instants.specs.declared.TickAnswer.{TickAnswer}
-use Rattle.state.specs.declared.Run.{Run}
-use Rattle.state.specs.declared.RunAnswer.{RunAnswer}
+use Rattle.ardenquill.specs.Records.{Chain, QueueSize, AnalysisAnswer, TickAnswer, Run, RunAnswer}
 
 -- a call with its arguments
 pub data Question : Type 0 where

@@ -6,8 +6,7 @@ use native.Mathlib.Numerals.{add-one}
 use lib.ListN.{length, getD, drop, drop-of-length-le}
 use lib.Seq.{drop-cons}
 use Rattle.ardenquill.specs.Runs.{freshAnswer, fireAnswer}
-use Rattle.chain.specs.declared.Chain.{Chain}
-use Rattle.state.specs.declared.RunAnswer.{RunAnswer}
+use Rattle.ardenquill.specs.Records.{Chain, RunAnswer}
 use Rattle.promises.specs.Replay.{replayFrom, replayAnswer, goes-on}
 
 module _ (c : Chain) where

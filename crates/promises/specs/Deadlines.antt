@@ -26,12 +26,7 @@ use Rattle.ardenquill.specs.Histories.{times}
 use Rattle.ardenquill.specs.Ticks.{numberOf, valuesOf, kindOf, atOf, goes, onward, tick, ticks, instants, longest, tickAnswer, deadlineRunAnswer, outcomeOf, ranAs, Ticking, ticking-is, tick-ran, deadline-run-accepts, deadline-run-ran, run-is-ticks, ticks-more, Paced, fresh-paced, tick-paced, paced-countable, tick-step, nodes, trace, resting, run-traced, run-never-spills}
 use Rattle.ardenquill.specs.Flat.{flat}
 use Rattle.ardenquill.specs.declared.OutcomeRun.{OutcomeRun}
-use Rattle.chain.specs.declared.Chain.{Chain}
-use Rattle.state.specs.declared.Run.{Run}
-use Rattle.instants.specs.declared.Outcome.{Outcome}
-use Rattle.instants.specs.declared.Outcome.the-variants.{Clean, Overflowed, NoDeadline}
-use Rattle.instants.specs.declared.Ticked.{Ticked}
-use Rattle.instants.specs.declared.TickAnswer.{TickAnswer}
+use Rattle.ardenquill.specs.Records.{Chain, Run, Outcome, Clean, Overflowed, NoDeadline, Ticked, TickAnswer}
 use Rattle.promises.specs.Replay.{replayAnswer, Fires, fires-is, fires-state}
 use Rattle.promises.specs.Demand3 as demand
 use Rattle.promises.specs.Demand3.{line, Sometime}

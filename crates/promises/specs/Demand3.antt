@@ -45,10 +45,7 @@ use Rattle.ardenquill.specs.Histories as histories
 use Rattle.ardenquill.specs.Histories.{times, after, Permitted, Prompt, AtSome, at-some, HasHeld}
 use Rattle.ardenquill.specs.Immediate as immediate
 use Rattle.ardenquill.specs.Immediate.{F, Reached, reached-after, below-minimum, schedule, Next, Follows, rule, most, immediateRefusal, immediateAnswer, immediate-accepts, immediate-ran, permitted, counts-are-F}
-use Rattle.chain.specs.declared.Chain.{Chain}
-use Rattle.sizing.specs.declared.QueueSize.{QueueSize}
-use Rattle.sizing.specs.declared.AnalysisAnswer.{AnalysisAnswer}
-use Rattle.state.specs.declared.Run.{Run}
+use Rattle.ardenquill.specs.Records.{Chain, QueueSize, AnalysisAnswer, Run}
 use Rattle.promises.specs.Replay.{replayAnswer, Accepts, Fires, accepts-is, fires-is, fires-state, fires-before}
 
 -- queue j's line in analyse's own answer

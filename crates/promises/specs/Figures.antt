@@ -13,7 +13,7 @@ use Rattle.ardenquill.specs.Chains.{factoryAnswer}
 use Rattle.ardenquill.specs.Analyses.{analyseAnswer}
 use Rattle.ardenquill.specs.Runs.{heldAt}
 use Rattle.ardenquill.specs.Histories.{times}
-use Rattle.chain.specs.declared.Chain.{Chain}
+use Rattle.ardenquill.specs.Records.{Chain}
 use Rattle.promises.specs.Replay.{replayAnswer, Fires}
 use Rattle.promises.specs.Demand3.{line, Sometime, LowAt, AtOnce}
 

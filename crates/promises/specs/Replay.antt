@@ -20,9 +20,7 @@ use borrow.Author.Tests.{eq-eqb, ne-eqb}
 use Rattle.ardenquill.specs.Analyses.{analyseAnswer, Accepted, analyse-accepts}
 use Rattle.ardenquill.specs.Runs.{freshRun, answered, freshAnswer, fresh-state, fired, fireAnswer, fire-accepted}
 use Rattle.ardenquill.specs.Histories.{after, Permitted, permitted-before}
-use Rattle.chain.specs.declared.Chain.{Chain}
-use Rattle.state.specs.declared.Run.{Run}
-use Rattle.state.specs.declared.RunAnswer.{RunAnswer}
+use Rattle.ardenquill.specs.Records.{Chain, Run, RunAnswer}
 
 -- fire for each node of h in turn, as long as none is refused
 unfoldable pub replayFrom : Chain → RunAnswer → List ℕ → RunAnswer

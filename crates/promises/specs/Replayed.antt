@@ -10,9 +10,7 @@ use Rattle.ardenquill.specs.Chains.{rowOf}
 use Rattle.ardenquill.specs.Analyses.{start}
 use Rattle.ardenquill.specs.Runs.{countAt, heldAt, freshRun, fireAnswer}
 use Rattle.ardenquill.specs.Histories.{times, after, Permitted}
-use Rattle.chain.specs.declared.Chain.{Chain}
-use Rattle.state.specs.declared.Run.{Run}
-use Rattle.state.specs.declared.RunAnswer.{RunAnswer}
+use Rattle.ardenquill.specs.Records.{Chain, Run, RunAnswer}
 use Rattle.promises.specs.Replay.{replayAnswer, Accepts, Fires, accepts-is, fires-is, fires-state}
 use Rattle.promises.specs.Demand3 as demand
 use Rattle.promises.specs.Demand3.{line, Always, Sometime, Ample, LowAt, AtOnce}
