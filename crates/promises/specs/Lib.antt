@@ -1,3 +1,5 @@
+pub mod Order
+pub mod Demand1
 pub mod Replay
 pub mod Demand3
 pub mod Replayed

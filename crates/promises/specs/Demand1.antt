@@ -1,0 +1,170 @@
+-- Demand 1, of what the public calls answer.
+--   "Every call takes any file, chain, run state or number and comes back."
+--                            this is part of every proof: no public call has a `requires`, a function that is proved ends, and its answer is a
+--                            definition that has a value for every file, chain, run state and number
+--   f, o, p                  the bytes of a file; lent bytes before and after a call, whose answer is a: Output says what a call that writes does (Files)
+--   c, s, i, k, T            a chain, a run state, a node, a number or an index, and ticks
+--   InOrder numbers checks N L
+--                            0 at place 0 where no check of the list speaks; else N at L is what the first that speaks says, with its number (Order)
+--   read-, write-, report-, factory-, analyse-, checked-, fresh-, fire-, immediate-, deadline-, tick-, deadline-run-numbers
+--                            the listed numbers of each call, in the order in which it tests them. When each is given exactly: read-1 to read-5, write-2 to
+--                            write-10, report-1 to report-10, factory-exact, analyse-2 to analyse-7, run-8, fire-17, fire-9, fire-11, fire-12,
+--                            immediate-9, deadline-11, deadline-13, tick-17, tick-9, deadline-run-9, and -earlier for what a call shares with the analysis
+--   read-, factory-, analyse-, checked-, fresh-, immediate-, deadline-, deadline-run-empty
+--                            what a refused call makes itself is zero
+--   writes-nothing           a refused call leaves every lent byte
+--   fire-stays, tick-stays   and gives back the run state that it was handed
+--   AlikeChains c d, AlikeRuns n s t
+--                            chains, and states, that differ in slots past n only (Runs)
+--   chain-past, fire-past, tick-past, fire-kept, tick-kept
+--                            slots past n are neither read nor changed
+use mathlib.Core.Path.{_≡_, refl, ap, _∙_}
+use mathlib.Core.Logic.{_≢_}
+use mathlib.Core.List.{List, [], _∷_}
+use Prim.Native.Nat.{ℕ}
+use lib.ListN.{length}
+use borrow.Author.Tests.{ne-eqb}
+use Rattle.ardenquill.specs.Records.{Refusal, Chain, LengthAnswer, Run, Clean}
+use Rattle.ardenquill.specs.Chains as chains
+use Rattle.ardenquill.specs.Chains.{refused, emptyChain, factoryCheck, factoryRefusal, factoryAnswer}
+use Rattle.ardenquill.specs.Files.{readChecks, readRefusal, readAnswer, packed, writeChecks, writeRefusal, Output}
+use Rattle.ardenquill.specs.Analyses.{emptyAnalysis, sized, analyseChecks, analyseRefusal, analyseAnswer, runChecks, runRefusal, runAnswer}
+use Rattle.ardenquill.specs.Reports.{reportText, reportChecks, reportRefusal}
+use Rattle.ardenquill.specs.Runs as runs
+use Rattle.ardenquill.specs.Runs.{emptyRun, freshAnswer, fireChecks, fireRefusal, fireAnswer, fresh-refused, fire-refused, AlikeChains, AlikeRuns, Whole, KeptPast, analysis-alike, fresh-alike, fire-alike}
+use Rattle.ardenquill.specs.Immediate.{immediateChecks, immediateRefusal, immediateAnswer, immediate-refused, immediate-alike}
+use Rattle.ardenquill.specs.Deadlines.{answeredDue, deadlineChecks, deadlineRefusal, deadlineAnswer, deadline-refused}
+use Rattle.ardenquill.specs.Ticks as ticks
+use Rattle.ardenquill.specs.Ticks.{outcomeOf, tickChecks, tickRefusal, tickAnswer, deadlineRunChecks, deadlineRunRefusal, deadlineRunAnswer, KeptSlots, AlikeAnswers, question-alike, deadline-run-alike}
+use Rattle.promises.specs.Order as order
+use Rattle.promises.specs.Order.{InOrder, in-order}
+
+-- "Bad input gets one of the listed refusal numbers with its place, in the listed order": a file that is read
+pub read-numbers : (f : List ℕ) → InOrder (1 ∷ 2 ∷ 3 ∷ 4 ∷ 5 ∷ []) (readChecks f) (readAnswer f .number) (readAnswer f .place)
+unfolding readAnswer chains.answered readRefusal
+read-numbers f = in-order _ _ (order.read-numbered f) _ _ refl
+
+-- a chain that is written
+pub write-numbers : (c : Chain) (o p : List ℕ) (a : LengthAnswer) → Output (writeRefusal c (length o)) (packed c) o p a → InOrder (2 ∷ 4 ∷ 5 ∷ 10 ∷ []) (writeChecks c (length o)) (a .number) (a .place)
+unfolding writeRefusal
+write-numbers c o p a w = in-order _ _ (order.write-numbered c (length o)) _ _ (ap (λ (x : LengthAnswer). refused (x .number) (x .place)) (w .answer))
+
+-- a file that is reported on
+pub report-numbers : (f o p : List ℕ) (a : LengthAnswer) → Output (reportRefusal f (length o)) (reportText f) o p a → InOrder (1 ∷ 2 ∷ 3 ∷ 4 ∷ 5 ∷ 6 ∷ 7 ∷ 10 ∷ []) (reportChecks f (length o)) (a .number) (a .place)
+unfolding reportRefusal
+report-numbers f o p a w = in-order _ _ (order.report-numbered f (length o)) _ _ (ap (λ (x : LengthAnswer). refused (x .number) (x .place)) (w .answer))
+
+-- a number that the factory is asked
+pub factory-numbers : (k : ℕ) → InOrder (14 ∷ []) (factoryCheck k ∷ []) (factoryAnswer k .number) (factoryAnswer k .place)
+unfolding factoryAnswer chains.answered factoryRefusal
+factory-numbers k = in-order _ _ (order.factory-numbered k) _ _ refl
+
+-- a chain that is analysed, checked for a run, or started
+module _ (c : Chain) where
+  pub analyse-numbers : InOrder (2 ∷ 4 ∷ 5 ∷ 6 ∷ 7 ∷ []) (analyseChecks c) (analyseAnswer c .number) (analyseAnswer c .place)
+  unfolding analyseAnswer sized analyseRefusal
+  analyse-numbers = in-order _ _ (order.analyse-numbered c) _ _ refl
+
+  pub checked-numbers : InOrder (2 ∷ 4 ∷ 5 ∷ 6 ∷ 7 ∷ 8 ∷ []) (runChecks c) (runAnswer c .number) (runAnswer c .place)
+  unfolding runAnswer sized runRefusal
+  checked-numbers = in-order _ _ (order.run-numbered c) _ _ refl
+
+  pub fresh-numbers : InOrder (2 ∷ 4 ∷ 5 ∷ 6 ∷ 7 ∷ []) (analyseChecks c) (freshAnswer c .number) (freshAnswer c .place)
+  unfolding freshAnswer runs.answered analyseRefusal
+  fresh-numbers = in-order _ _ (order.analyse-numbered c) _ _ refl
+
+  -- a manual firing, 17 "tested after 8 and before 9"
+  pub fire-numbers : (s : Run) (i : ℕ) → InOrder (2 ∷ 4 ∷ 5 ∷ 6 ∷ 7 ∷ 17 ∷ 9 ∷ 11 ∷ 12 ∷ []) (fireChecks c s i) (fireAnswer c s i .number) (fireAnswer c s i .place)
+  unfolding fireAnswer runs.answered fireRefusal
+  fire-numbers s i = in-order _ _ (order.fire-numbered c s i) _ _ refl
+
+  -- an immediate run
+  pub immediate-numbers : (k : ℕ) → InOrder (2 ∷ 4 ∷ 5 ∷ 6 ∷ 7 ∷ 8 ∷ 9 ∷ []) (immediateChecks c k) (immediateAnswer c k .number) (immediateAnswer c k .place)
+  unfolding immediateAnswer runs.answered immediateRefusal
+  immediate-numbers k = in-order _ _ (order.immediate-numbered c k) _ _ refl
+
+  -- a deadline question
+  pub deadline-numbers : (i k : ℕ) → InOrder (2 ∷ 4 ∷ 5 ∷ 6 ∷ 7 ∷ 8 ∷ 11 ∷ 13 ∷ []) (deadlineChecks c i k) (deadlineAnswer c i k .number) (deadlineAnswer c i k .place)
+  unfolding deadlineAnswer answeredDue deadlineRefusal
+  deadline-numbers i k = in-order _ _ (order.deadline-numbered c i k) _ _ refl
+
+  -- a tick, 9 of the clock and then 9 of a count
+  pub tick-numbers : (s : Run) → InOrder (2 ∷ 4 ∷ 5 ∷ 6 ∷ 7 ∷ 8 ∷ 17 ∷ 9 ∷ 9 ∷ []) (tickChecks c s) (tickAnswer c s .number) (tickAnswer c s .place)
+  unfolding tickAnswer outcomeOf tickRefusal
+  tick-numbers s = in-order _ _ (order.tick-numbered c s) _ _ refl
+
+  -- a deadline run
+  pub deadline-run-numbers : (T : ℕ) → InOrder (2 ∷ 4 ∷ 5 ∷ 6 ∷ 7 ∷ 8 ∷ 9 ∷ []) (deadlineRunChecks c T) (deadlineRunAnswer c T .number) (deadlineRunAnswer c T .place)
+  unfolding deadlineRunAnswer outcomeOf deadlineRunRefusal
+  deadline-run-numbers T = in-order _ _ (order.deadline-run-numbered c T) _ _ refl
+
+-- 01's "a refusal gives number and place, all other results zero"
+pub read-empty : (f : List ℕ) → readAnswer f .number ≢ 0 → readAnswer f .chain ≡ emptyChain
+unfolding readAnswer chains.answered
+read-empty f n = simp (ne-eqb _ _ n)
+
+pub factory-empty : (k : ℕ) → factoryAnswer k .number ≢ 0 → factoryAnswer k .chain ≡ emptyChain
+unfolding factoryAnswer chains.answered
+factory-empty k n = simp (ne-eqb _ _ n)
+
+module _ (c : Chain) where
+  pub analyse-empty : analyseAnswer c .number ≢ 0 → analyseAnswer c .analysis ≡ emptyAnalysis
+  unfolding analyseAnswer sized
+  analyse-empty n = simp (ne-eqb _ _ n)
+
+  pub checked-empty : runAnswer c .number ≢ 0 → runAnswer c .analysis ≡ emptyAnalysis
+  unfolding runAnswer sized
+  checked-empty n = simp (ne-eqb _ _ n)
+
+  pub fresh-empty : freshAnswer c .number ≢ 0 → freshAnswer c .run ≡ emptyRun
+  unfolding freshAnswer runs.answered
+  fresh-empty = fresh-refused c
+
+  pub immediate-empty : (k : ℕ) → immediateAnswer c k .number ≢ 0 → immediateAnswer c k .run ≡ emptyRun
+  unfolding immediateAnswer runs.answered
+  immediate-empty k = immediate-refused c k
+
+  pub deadline-empty : (i k : ℕ) → deadlineAnswer c i k .number ≢ 0 → deadlineAnswer c i k .due ≡ 0
+  unfolding deadlineAnswer answeredDue
+  deadline-empty i k = deadline-refused c i k
+
+  pub deadline-run-empty : (T : ℕ) → deadlineRunAnswer c T .number ≢ 0 → (deadlineRunAnswer c T .outcome ≡ Clean) × (deadlineRunAnswer c T .run ≡ emptyRun)
+  unfolding deadlineRunAnswer outcomeOf
+  deadline-run-empty T n = (simp (ne-eqb _ _ n), simp (ne-eqb _ _ n))
+
+-- "a refused call writes nothing in lent memory": of every call that writes, whatever its checks and its text
+pub writes-nothing : {r : Refusal} {t o p : List ℕ} {a : LengthAnswer} → Output r t o p a → a .number ≢ 0 → (p ≡ o) × (a .length ≡ 0)
+writes-nothing {r} {t} {o} w n =
+    let speaks : r .number ≢ 0 = λ z. n (ap (λ (x : LengthAnswer). x .number) (w .answer) ∙ z) in
+    (w .bytes ∙ simp (ne-eqb _ _ speaks), ap (λ (x : LengthAnswer). x .length) (w .answer) ∙ simp (ne-eqb _ _ speaks))
+
+-- "and a run state stays as it was"
+module _ (c : Chain) (s : Run) where
+  pub fire-stays : (i : ℕ) → fireAnswer c s i .number ≢ 0 → fireAnswer c s i .run ≡ s
+  unfolding fireAnswer runs.answered
+  fire-stays i = fire-refused c s i
+
+  pub tick-stays : tickAnswer c s .number ≢ 0 → (tickAnswer c s .outcome ≡ Clean) × (tickAnswer c s .run ≡ s)
+  unfolding tickAnswer outcomeOf
+  tick-stays n = (simp (ne-eqb _ _ n), simp (ne-eqb _ _ n))
+
+  -- 01's "in every run state the slots past n are neither read nor changed": each firing and each tick leaves its own
+  pub fire-kept : (i : ℕ) → KeptPast (c .n) s (fireAnswer c s i .run)
+  fire-kept = runs.past-kept c s
+
+  pub tick-kept : KeptSlots (c .n) s (tickAnswer c s .run)
+  tick-kept = ticks.past-kept c s
+
+-- and chains and states that differ there only are answered alike
+module _ {c d : Chain} (a : AlikeChains c d) where
+  pub chain-past : ((analyseAnswer c ≡ analyseAnswer d) × (freshAnswer c ≡ freshAnswer d))
+      × (((k : ℕ) → immediateAnswer c k ≡ immediateAnswer d k) × (((i k : ℕ) → deadlineAnswer c i k ≡ deadlineAnswer d i k) × ((T : ℕ) → deadlineRunAnswer c T ≡ deadlineRunAnswer d T)))
+  chain-past = ((analysis-alike a, fresh-alike a), (immediate-alike a, (question-alike a, deadline-run-alike a)))
+
+  module _ {s t : Run} (r : AlikeRuns (c .n) s t) (w : Whole s) (v : Whole t) where
+    pub fire-past : (i : ℕ) → (refused (fireAnswer c s i .number) (fireAnswer c s i .place) ≡ refused (fireAnswer d t i .number) (fireAnswer d t i .place)) × AlikeRuns (c .n) (fireAnswer c s i .run) (fireAnswer d t i .run)
+    unfolding fireAnswer runs.answered
+    fire-past i = (fire-alike a r i, runs.past-n a r w v i)
+
+    pub tick-past : AlikeAnswers (c .n) (tickAnswer c s) (tickAnswer d t)
+    tick-past = ticks.past-n a r w v
