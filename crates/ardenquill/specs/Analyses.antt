@@ -1,14 +1,16 @@
 -- What the public calls promise of an analysis, handed on from the crates `arith`, `onequeue`, `rates` and `sizing`. What a call
 -- answers is handed on unfoldable, so that a figure can be computed.
 pub use Rattle.arith.specs.Division.{ceil, ceil-above, ceil-least, ceil-unique}
-pub use Rattle.arith.specs.Gcd.{gcd, gcd-dvd-left, gcd-dvd-right, gcd-greatest, gcd-unique}
+pub use Rattle.arith.specs.Gcd.{gcd, gcd-dvd-left, gcd-dvd-right, gcd-greatest, gcd-unique, gcd-pos-left}
 pub use Rattle.onequeue.specs.Residue.{residue, Largest, residue-largest, largest-unique, residue-000, residue-004, residue-floor, residue-rest}
-pub use Rattle.onequeue.specs.Minimum.{minimum, minimum-is, minimum-produce, minimum-threshold, minimum-bound, naming, Reaches, naming-reaches, naming-is, naming-pos, naming-fits}
+pub use Rattle.onequeue.specs.Minimum.{minimum, minimum-is, minimum-produce, minimum-threshold, minimum-bound, Reaches, naming-reaches, naming-is, naming-pos, naming-fits}
+unfoldable pub use Rattle.onequeue.specs.Minimum.{naming}
 pub use Rattle.onequeue.specs.Capacity.{capacity, capacity-written, capacity-minimum, margin, margin-over, margin-under, margin-balance, margin-zero, margin-negative, short-is}
-pub use Rattle.rates.specs.Rates.{common, nextX, nextY, stretch}
+unfoldable pub use Rattle.rates.specs.Rates.{common, nextX, nextY, stretch}
 unfoldable pub use Rattle.sizing.specs.Nodes.{xOf, yOf}
 pub use Rattle.sizing.specs.Nodes.{stretchOf, source-rate, x-pos, y-pos, y-stretch, y-multiple, y-source, tokens-balance, cycle-least}
-pub use Rattle.sizing.specs.Load.{busyIn, busyOf, cycleOf, parts-exact, busy-next}
+unfoldable pub use Rattle.sizing.specs.Load.{busyIn}
+pub use Rattle.sizing.specs.Load.{busyOf, cycleOf, parts-exact, busy-next}
 pub use Rattle.rates.specs.Load.{capped, capped-above}
 pub use Rattle.sizing.specs.Sizes.{start, minimumOf, namingOf, capacityOf, marginOf, margin-unwritten, margin-written, sizeOf, noSize, emptyAnalysis, refusedWith, size-at}
 unfoldable pub use Rattle.sizing.specs.Sizes.{sizeBy, analysisOf, sized}

@@ -1,7 +1,11 @@
-pub mod Order
-pub mod Demand1
 pub mod Replay
+pub mod Order
+pub mod Laws
+pub mod ByTicks
+pub mod Demand1
+pub mod Demand2
 pub mod Demand3
+pub mod Beyond
 pub mod Replayed
-pub mod Figures
-pub mod Deadlines
+pub mod Ran
+pub mod ReadBack

@@ -1,9 +1,20 @@
--- Manual firings from a fresh start, as their calls answer them (01, Firing).
---   c, h                     a chain, and a list of nodes to fire, in order
+-- What the demands are said in: what the analysis reports, and manual firings from a fresh start, as their calls answer them (01, Firing).
+--   c, j, i, k               a chain, a queue (N_j feeds it and N_(j+1) empties it), a node, a number of source firings
+--   Accepts c                the analysis does not refuse c: 01's accepted chain; accepts-is: which is Accepted
+--   line c j                 what analyse answers of queue j: minimum is b, by the naming count, x and y its consumer's rate
+--   rateX c i, rateY c i     N_i's rate as it is reported; the source's is 1 in a period
+--   h                        a list of nodes to fire, in order
 --   replayFrom c r h         the answer after h, from the answer r on: the first refusal ends it, with the state as it then was
 --   replayAnswer c h         fresh, then fire for each node of h in turn
---   Accepts c                the analysis does not refuse c: 01's accepted chain; accepts-is: which is Accepted
 --   Fires c h                a permitted order: fresh and each fire accepts
+--   Always c h P, Sometime c h P
+--                            P holds of the state at every moment of h, at some moment of h; a moment is the end of what h begins with
+--   Ample c i                queue i's capacity, if written, is not below its reported minimum
+--   Low c s, LowAt c s i     in the state s no queue's consumer is over threshold, so that only the source may fire; queue i's is not
+--   AtOnce c h               no node fires while the node that it feeds is over threshold
+--   Next c s i, NearestFirst c h
+--                            N_i is the node nearest the sink that may fire in s, or the source where no other may (Immediate); each firing of h is of that node
+--   Runs c k                 the immediate run of k source firings is not refused
 --   stopped, goes-on         after a refusal nothing is fired, and without one the next node is
 --   Went c r h               what firings that end with no refusal were
 --   fires-is                 h is such an order exactly when the chain is accepted and manual firing permits h
@@ -11,16 +22,36 @@
 --   fires-before             what it begins with is one, too
 use mathlib.Core.Path.{_≡_, refl, sym, ap, subst, _∙_}
 use mathlib.Core.Bool.{cond}
-use mathlib.Core.Logic.{_↔_, by-cases}
+use mathlib.Core.Logic.{_↔_, _⊎_, by-cases}
 use mathlib.Core.List.{List, [], _∷_, _++_}
-use Prim.Native.Nat.{ℕ}
+use Prim.Native.Nat.{ℕ, zero, suc, _≤_, _<_}
 use native.Mathlib.Decide.{ℕ-discrete}
 use lib.Dec.{eqb}
+use lib.ListN.{getD}
 use borrow.Author.Tests.{eq-eqb, ne-eqb}
-use Rattle.ardenquill.specs.Analyses.{analyseAnswer, Accepted, analyse-accepts}
-use Rattle.ardenquill.specs.Runs.{freshRun, answered, freshAnswer, fresh-state, fired, fireAnswer, fire-accepted}
-use Rattle.ardenquill.specs.Histories.{after, Permitted, permitted-before}
-use Rattle.ardenquill.specs.Records.{Chain, Run, RunAnswer}
+use Rattle.ardenquill.specs.Chains.{rowOf}
+use Rattle.ardenquill.specs.Analyses.{noSize, analyseAnswer, Accepted, analyse-accepts}
+use Rattle.ardenquill.specs.Runs.{heldAt, freshRun, answered, freshAnswer, fresh-state, fired, fireAnswer, fire-accepted}
+use Rattle.ardenquill.specs.Histories.{AtSome, after, Permitted, permitted-before}
+use Rattle.ardenquill.specs.Immediate.{Next, immediateAnswer}
+use Rattle.ardenquill.specs.Records.{Chain, QueueSize, Run, RunAnswer}
+
+-- "a chain it doesn't refuse is accepted"
+abbrev pub Accepts : Chain → Type 0
+Accepts c = analyseAnswer c .number ≡ 0
+
+-- queue j's line in analyse's own answer
+abbrev pub line : Chain → ℕ → QueueSize
+line c j = getD (analyseAnswer c .analysis .queues) j noSize
+
+-- "N_0 has x=1 and y the period", and N_(j+1) what the line of the queue before it says
+abbrev pub rateX : Chain → ℕ → ℕ
+rateX c zero = 1
+rateX c (suc j) = line c j .x
+
+abbrev pub rateY : Chain → ℕ → ℕ
+rateY c zero = c .period
+rateY c (suc j) = line c j .y
 
 -- fire for each node of h in turn, as long as none is refused
 unfoldable pub replayFrom : Chain → RunAnswer → List ℕ → RunAnswer
@@ -33,15 +64,43 @@ unfoldable pub replayAnswer : Chain → List ℕ → RunAnswer
 unfolding replayFrom freshAnswer
 replayAnswer c h = replayFrom c (freshAnswer c) h
 
--- "a chain it doesn't refuse is accepted"
-abbrev pub Accepts : Chain → Type 0
-Accepts c = analyseAnswer c .number ≡ 0
-
 -- "a permitted order is one in which every firing was accepted"
 abbrev pub Fires : Chain → List ℕ → Type 0
 Fires c h = replayAnswer c h .number ≡ 0
 
--- which is every check of the analysis being silent
+-- P holds of the state at every moment of h
+abbrev pub Always : Chain → List ℕ → (Run → Type 0) → Type 0
+Always c h P = (before later : List ℕ) → h ≡ before ++ later → P (replayAnswer c before .run)
+
+-- P holds of the state at some moment of h
+abbrev pub Sometime : Chain → List ℕ → (Run → Type 0) → Type 0
+Sometime c h P = AtSome h (λ g. P (replayAnswer c g .run))
+
+-- "no capacity is below the reported minimum", of queue i
+abbrev pub Ample : Chain → ℕ → Type 0
+Ample c i = (rowOf c i .capacity ≡ 0) ⊎ (line c i .minimum ≤ rowOf c i .capacity)
+
+-- the node that N_i feeds, if any, is below threshold
+abbrev pub LowAt : Chain → Run → ℕ → Type 0
+LowAt c s i = i < c .n → heldAt s i < rowOf c i .threshold
+
+-- no node but the source is over threshold
+abbrev pub Low : Chain → Run → Type 0
+Low c s = (j : ℕ) → LowAt c s j
+
+-- when N_i fires, the node that it feeds, if any, is below threshold
+abbrev pub AtOnce : Chain → List ℕ → Type 0
+AtOnce c h = (before later : List ℕ) (i : ℕ) → h ≡ before ++ (i ∷ later) → LowAt c (replayAnswer c before .run) i
+
+-- "no source firing happens while another node may fire, and among those that may, the one nearest the sink goes first"
+abbrev pub NearestFirst : Chain → List ℕ → Type 0
+NearestFirst c h = (before later : List ℕ) (i : ℕ) → h ≡ before ++ (i ∷ later) → Next c (replayAnswer c before .run) i
+
+-- the immediate run of k source firings is not refused
+abbrev pub Runs : Chain → ℕ → Type 0
+Runs c k = immediateAnswer c k .number ≡ 0
+
+-- accepted is every check of the analysis being silent
 pub accepts-is : (c : Chain) → Accepts c ↔ Accepted c
 unfolding analyseAnswer
 accepts-is c = analyse-accepts c

@@ -11,9 +11,9 @@ use Rattle.ardenquill.specs.Analyses.{start}
 use Rattle.ardenquill.specs.Runs.{countAt, heldAt, freshRun, fireAnswer}
 use Rattle.ardenquill.specs.Histories.{times, after, Permitted}
 use Rattle.ardenquill.specs.Records.{Chain, Run, RunAnswer}
-use Rattle.promises.specs.Replay.{replayAnswer, Accepts, Fires, accepts-is, fires-is, fires-state}
+use Rattle.promises.specs.Replay.{Accepts, line, replayAnswer, Fires, Always, Sometime, Ample, LowAt, AtOnce, accepts-is, fires-is, fires-state}
 use Rattle.promises.specs.Demand3 as demand
-use Rattle.promises.specs.Demand3.{line, Always, Sometime, Ample, LowAt, AtOnce}
+use Rattle.promises.specs.Beyond as beyond
 
 -- the chain is accepted, the order permitted, and s the state after it; each queue holds "what its producer's firings put in less what its
 -- consumer's took out"; a producer that fired "as often as 01 names for its queue" has shown the minimum there; where nodes fired at once no
@@ -43,7 +43,7 @@ kept-of c h ok = record {
   balance = demand.balance c h ok;
   naming = demand.naming c h ok;
   peak = demand.peak c h ok;
-  never-full = demand.never-full c h ok;
+  never-full = beyond.never-full c h ok;
 }
 
 -- the answer is enough

@@ -1,7 +1,9 @@
-// The customer's demands as theorems, in specs/, and two functions that are proved from the contracts of the public calls alone.
-ghost use Rattle.promises.specs.Deadlines.{Ran};
+// The customer's demands as theorems, in specs/, and three functions that are proved from the contracts of the public calls alone.
+ghost use Rattle.promises.specs.Ran.{Ran};
+ghost use Rattle.promises.specs.ReadBack.{ReadBack};
 ghost use Rattle.promises.specs.Replayed.{Replayed};
 use ardenquill::Chain;
+use ardenquill::ChainAnswer;
 use ardenquill::OutcomeRun;
 use ardenquill::RunAnswer;
 
@@ -21,6 +23,22 @@ pub fn replay(chain: Chain, nodes: &[u32]) -> RunAnswer
         i += 1;
     }
     answer
+}
+
+// Writes a chain into the lent bytes and reads it from there again; or the writer's refusal, with an empty chain.
+pub fn read_back(chain: Chain, out: &mut [u8]) -> ChainAnswer
+    ensures { λ r. ⌜ ReadBack chain (now (out .entry)) (now (out .exit)) r ⌝ }
+{
+    let written = ardenquill::write(chain, out);
+    if written.number != 0 {
+        return ChainAnswer {
+            number: written.number,
+            place: written.place,
+            chain: chain::EMPTY,
+        };
+    }
+    let end = written.length as usize;
+    ardenquill::read(&out[..end])
 }
 
 // A deadline run as C is answered it.

@@ -1,6 +1,6 @@
 -- `promises::run` meets its contract: what the call answers is enough.
 use borrow.Author.Needs.{needs}
-use Rattle.promises.specs.Deadlines.{ran-so}
+use Rattle.promises.specs.Ran.{ran-so}
 use Rattle.promises.proofs.run.Statement.{statement}
 use Rattle.promises.proofs.run.Tie as tie
 

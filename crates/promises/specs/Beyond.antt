@@ -1,0 +1,201 @@
+-- What is shown beyond the demands, of what the public calls answer.
+--   c, h, j, i, k, T         a chain, a list of nodes fired in this order, a queue, a node, source firings, ticks (Demand3)
+--   feedWorking e B          Feed with the execution time e and the capacity B
+--   load-below-one-overflows, full-queue-cured
+--                            a chain whose load is below 1 and which overflows: P8 of the scope; and that it does not with a larger queue
+--   firings c T              the nodes that fired in the deadline run of T ticks, in order
+--   run-fires, run-state     manual firing accepts each of them, and after them counts and contents are the run's
+--   run-counted, run-balance, run-naming
+--                            so demand 3 holds of deadline runs
+--   run-overflow             an overflow is of the source's production, into queue 0
+--   carried-on               a run of a+b ticks is a run of a ticks, carried on for b
+--   thirteen                 13 is the number of the runs that end for want of a deadline
+--   never-full               nodes that fire at once are never stopped by a full queue
+--   filled, reached          where they do, a producer that has fired the naming count has filled its queue to exactly the minimum
+--   any-order, run-any-order permitted orders of equally many source firings that leave only the source to fire end in one state, the immediate run's
+--   feed, feed-line          the factory chain 0, whose queue has the minimum 10, by 4 firings of the source
+--   three-short              no smaller naming count would do: an accepted list with 3 firings of the source, in which the queue never holds 10
+--   six-full                 no smaller minimum would do: an accepted list in which nodes fire at once, after which the queue holds 10
+use mathlib.Core.Path.{_≡_, refl, sym, ap, subst, _∙_}
+use mathlib.Core.Logic.{_↔_}
+use mathlib.Core.List.{List, [], _∷_}
+use Prim.Native.Nat.{ℕ, suc, _+_, _*_, _≤_, _<_}
+use native.Mathlib.Omega.{arith}
+use lib.ListN.{length, getD}
+use Rattle.ardenquill.specs.Chains.{refused, rowOf, Sound, queue, made, factoryAnswer}
+use Rattle.ardenquill.specs.Analyses.{start, minimumOf, capacityOf, enough-capacity, analyseAnswer, Accepted}
+use Rattle.ardenquill.specs.Runs.{countAt, heldAt, freshRun, answered, fireRefusal, fireAnswer, fire-12}
+use Rattle.ardenquill.specs.Histories as histories
+use Rattle.ardenquill.specs.Histories.{times, after, at-some}
+use Rattle.ardenquill.specs.Immediate as immediate
+use Rattle.ardenquill.specs.Immediate.{Reached, reached-after, below-minimum, schedule, immediateAnswer}
+use Rattle.ardenquill.specs.Ticks.{numberOf, valuesOf, kindOf, onward, ticks, instants, deadlineRunAnswer, ranAs, run-is-ticks, ticks-more, nodes, trace, resting, run-traced, run-never-spills}
+use Rattle.ardenquill.specs.Records.{Chain, Run, Outcome, Clean, Overflowed, NoDeadline, Ticked, TickAnswer}
+use Rattle.promises.specs.Replay.{line, replayAnswer, Fires, Sometime, Ample, LowAt, Low, AtOnce, Runs, fires-is, fires-state}
+use Rattle.promises.specs.Laws.{minimum-is, by-is, accepted, permits, state-is, moment, prompts, Each, each-at, Firings, firing-at}
+use Rattle.promises.specs.ByTicks.{DeadlineRuns, may-run, answer-is}
+use Rattle.promises.specs.Demand2.{immediate-fires, immediate-state, immediate-rule, immediate-source, immediate-ends}
+use Rattle.promises.specs.Demand3 as demand
+use Rattle.promises.specs.Demand3.{nearest-at-once}
+
+-- Feed with another execution time, and with a capacity
+abbrev pub feedWorking : ℕ → ℕ → Chain
+feedWorking e B = made 10 (queue 4 7 3 B ∷ []) (e ∷ [])
+
+-- "taking load below 1 as proof that no queue overflows (P8)" is an error: the chain is accepted, with a load of 28 of 30, and its deadline run overflows at tick 40
+pub load-below-one-overflows :
+    ((analyseAnswer (feedWorking 7 0) .number ≡ 0) × ((analyseAnswer (feedWorking 7 0) .analysis .busy ≡ 28) × (analyseAnswer (feedWorking 7 0) .analysis .cycle ≡ 30)))
+    × ((deadlineRunAnswer (feedWorking 7 0) 41 .number ≡ 0) × (deadlineRunAnswer (feedWorking 7 0) 41 .outcome ≡ Overflowed 40 0))
+unfolding analyseAnswer deadlineRunAnswer
+load-below-one-overflows = ((refl, (refl, refl)), (refl, refl))
+
+-- "with B=12 it is clean to tick 90"
+pub full-queue-cured : deadlineRunAnswer (feedWorking 7 12) 90 .outcome ≡ Clean
+unfolding deadlineRunAnswer
+full-queue-cured = refl
+
+-- the nodes that fired in a deadline run, in order
+abbrev pub firings : Chain → ℕ → List ℕ
+firings c T = nodes (trace c T (freshRun c))
+
+-- a deadline run that is not refused
+module _ (c : Chain) (T : ℕ) (ran : DeadlineRuns c T) where
+  -- its firings and its state
+  traced : Fires c (firings c T) × (after c (freshRun c) (firings c T) ≡ resting (deadlineRunAnswer c T .run))
+  traced =
+      let a : Accepted c = may-run c T ran .0 .0 in
+      let t = run-traced a T (may-run c T ran .1) in
+      (fires-is c (firings c T) .1 (a, t .0), t .1 ∙ ap (λ (r : TickAnswer). resting (r .run)) (sym (answer-is c T ran)))
+
+  -- manual firing accepts each of them
+  pub run-fires : Fires c (firings c T)
+  run-fires = traced .0
+
+  -- and after them counts and contents are the run's
+  pub run-state : replayAnswer c (firings c T) .run ≡ resting (deadlineRunAnswer c T .run)
+  run-state = fires-state c (firings c T) run-fires ∙ traced .1
+
+  -- a count is how often the node fired
+  pub run-counted : (i : ℕ) → i ≤ c .n → countAt (deadlineRunAnswer c T .run) i ≡ times i (firings c T)
+  run-counted i l = ap (λ (s : Run). countAt s i) (sym run-state) ∙ demand.counted c (firings c T) run-fires i l
+
+  -- "each queue holds what its producer's firings put in less what its consumer's took out"
+  pub run-balance : (j : ℕ) → j < c .n → start (rowOf c j) + rowOf c j .produce * times j (firings c T) ≡ heldAt (deadlineRunAnswer c T .run) j + rowOf c j .consume * times (suc j) (firings c T)
+  run-balance j l = subst (λ (s : Run). start (rowOf c j) + rowOf c j .produce * times j (firings c T) ≡ heldAt s j + rowOf c j .consume * times (suc j) (firings c T)) run-state (demand.balance c (firings c T) run-fires j l)
+
+  -- "in no permitted order can a producer fire as often as 01 names for its queue unless that queue has held at least the minimum"
+  pub run-naming : (j : ℕ) → j < c .n → line c j .by ≤ countAt (deadlineRunAnswer c T .run) j → Sometime c (firings c T) (λ s. line c j .minimum ≤ heldAt s j)
+  run-naming j l often = demand.naming c (firings c T) run-fires j l (omega (arith, run-counted j (omega arith)))
+
+  -- "overflowed at (tick, queue)" is always at queue 0: no firing that has worked its execution time is stopped by a full queue
+  pub run-overflow : (t q : ℕ) → numberOf (deadlineRunAnswer c T .outcome) ≡ 0 → valuesOf (deadlineRunAnswer c T .outcome) ≡ t ∷ q ∷ [] → q ≡ 0
+  run-overflow t q = by (deadlineRunAnswer c T .outcome) refl
+    where
+      by : (o : Outcome) → deadlineRunAnswer c T .outcome ≡ o → numberOf o ≡ 0 → valuesOf o ≡ t ∷ q ∷ [] → q ≡ 0
+      by Clean e z v = absurd (let n : _≡_ {A = ℕ} 0 2 = ap length v in omega arith)
+      by (Overflowed u r) e z v = sym (ap (λ (l : List ℕ). getD l 1 0) v) ∙ run-never-spills (may-run c T ran .0 .1) (may-run c T ran .0 .0) T u r (ap (λ (a : TickAnswer). a .outcome) (sym (answer-is c T ran)) ∙ e)
+      by (NoDeadline u i) e z v = absurd (omega arith)
+
+-- a run of a+b ticks is a run of a ticks carried on for b
+pub carried-on : (c : Chain) (a b : ℕ) → DeadlineRuns c (a + b) → deadlineRunAnswer c (a + b) ≡ ranAs (onward (instants c a (freshRun c)) (ticks c b))
+carried-on c a b ran =
+    let k : Accepted c = may-run c (a + b) ran .0 .0 in
+    answer-is c (a + b) ran
+    ∙ ap ranAs (run-is-ticks k (a + b) ∙ ticks-more c a b (freshRun c) ∙ ap (λ (x : Ticked). onward x (ticks c b)) (sym (run-is-ticks k a)))
+
+-- 13 is the number of exactly the outcomes that are neither clean nor an overflow
+pub thirteen : (o : Outcome) → (numberOf o ≡ 13) ↔ (kindOf o ≡ 2)
+thirteen Clean = (λ e. absurd (omega arith), λ e. absurd (omega arith))
+thirteen (Overflowed t q) = (λ e. absurd (omega arith), λ e. absurd (omega arith))
+thirteen (NoDeadline t i) = (λ e. refl, λ e. refl)
+
+module _ (c : Chain) (h : List ℕ) (ok : Fires c h) where
+  -- nodes that fire at once are never stopped by a full queue, where no capacity is below the reported minimum: manual firing does not refuse
+  -- N_i with 12 while the node that it feeds is below threshold
+  pub never-full : (i : ℕ) → Ample c i → LowAt c (replayAnswer c h .run) i → fireAnswer c (replayAnswer c h .run) i .number ≡ 12 → ⊥
+  unfolding fireAnswer answered
+  never-full i big low e =
+      let a : Accepted c = accepted c h ok in
+      let s : Run = replayAnswer c h .run in
+      let r : Reached c s = rw (state-is c h ok) (reached-after (a .chain) h (permits c h ok)) in
+      let L : ℕ = fireRefusal c s i .place in
+      let says : fireRefusal c s i ≡ refused 12 L = λ t. record { number = e t; place = L } in
+      let f = fire-12 c s i L .0 says .1 .0 in
+      let cap : minimumOf (rowOf c i) ≤ capacityOf (rowOf c i) = enough-capacity c i (rw (minimum-is c a i (f .0)) at big) in
+      omega (arith, below-minimum (a .chain) r i (f .0) (low (f .0)), cap, f .1)
+
+  -- and a producer that has fired the naming count has filled its queue to exactly the minimum
+  pub filled : AtOnce c h → (j : ℕ) → j < c .n → line c j .by ≤ times j h → Sometime c h (λ s. heldAt s j ≡ line c j .minimum)
+  filled low j l often =
+      let a : Accepted c = accepted c h ok in
+      at-some (λ g k e m. rw (moment c h ok g k e, minimum-is c a j l) m) (histories.reached c a h (permits c h ok) (prompts c h ok low) j l (rw (by-is c a j l) at often))
+
+-- whatever the order: equally many source firings that leave no other node over threshold lead to one state
+pub any-order : (c : Chain) (g h : List ℕ) → Fires c g → Fires c h → times 0 g ≡ times 0 h → Low c (replayAnswer c g .run) → Low c (replayAnswer c h .run)
+    → replayAnswer c g .run ≡ replayAnswer c h .run
+any-order c g h ok ok′ e low low′ =
+    let s : Sound c = accepted c g ok .chain in
+    state-is c g ok
+    ∙ immediate.any-order s g (permits c g ok) (λ j z l. rw (state-is c g ok) at (low j l))
+    ∙ ap (λ (m : ℕ). after c (freshRun c) (schedule c m)) e
+    ∙ sym (immediate.any-order s h (permits c h ok′) (λ j z l. rw (state-is c h ok′) at (low′ j l)))
+    ∙ sym (state-is c h ok′)
+
+module _ (c : Chain) (k : ℕ) (ran : Runs c k) where
+  -- so every permitted order of k source firings that ends so leads to the immediate run's state
+  pub run-any-order : (h : List ℕ) → Fires c h → times 0 h ≡ k → Low c (replayAnswer c h .run) → replayAnswer c h .run ≡ immediateAnswer c k .run
+  run-any-order h ok e low =
+      any-order c h (schedule c k) ok (immediate-fires c k ran) (e ∙ sym (immediate-source c k ran)) low (rw (← immediate-state c k ran) (immediate-ends c k ran))
+      ∙ sym (immediate-state c k ran)
+
+  -- in which a queue whose producer has fired its naming count has held exactly the minimum
+  pub reached : (j : ℕ) → j < c .n → line c j .by ≤ countAt (immediateAnswer c k .run) j → Sometime c (schedule c k) (λ s. heldAt s j ≡ line c j .minimum)
+  reached j l often =
+      let fires = immediate-fires c k ran in
+      filled c (schedule c k) fires (nearest-at-once c (schedule c k) (immediate-rule c k ran)) j l
+      (omega (arith, ap (λ (s : Run). countAt s j) (immediate-state c k ran), demand.counted c (schedule c k) fires j (omega arith)))
+
+-- the factory chain 0
+abbrev pub feed : Chain
+feed = factoryAnswer 0 .chain
+
+-- what analyse answers of its queue
+pub feed-line : (line feed 0 .minimum ≡ 10) × (line feed 0 .by ≡ 4)
+unfolding factoryAnswer analyseAnswer
+feed-line = (refl, refl)
+
+-- three firings of the source
+abbrev pub three : List ℕ
+three = 0 ∷ 0 ∷ 1 ∷ 0 ∷ []
+
+-- less than 10 is held after g
+abbrev Below : List ℕ → Type 0
+Below g = heldAt (replayAnswer feed g .run) 0 < 10
+
+-- at each moment of them
+three-below : Each Below three
+unfolding factoryAnswer replayAnswer Each
+three-below = (omega arith, (omega arith, (omega arith, (omega arith, omega arith))))
+
+-- manual firing accepts them, and at no moment the queue has held its minimum
+pub three-short : (Fires feed three × (times 0 three ≡ 3)) × (Sometime feed three (λ s. line feed 0 .minimum ≤ heldAt s 0) → ⊥)
+unfolding factoryAnswer replayAnswer times
+three-short = ((refl, refl), λ m. omega (arith, m .holds, feed-line .0, each-at Below (m .before) (m .later) (subst (Each Below) (m .parts) three-below)))
+
+-- each firing of the source, then the sink until it is below threshold, up to the fourth
+abbrev pub six : List ℕ
+six = 0 ∷ 0 ∷ 1 ∷ 0 ∷ 1 ∷ 0 ∷ []
+
+-- the node that N_i feeds is below threshold after g
+abbrev LowAfter : List ℕ → ℕ → Type 0
+LowAfter g = LowAt feed (replayAnswer feed g .run)
+
+-- of each of them
+six-low : Firings LowAfter six
+unfolding factoryAnswer replayAnswer Firings
+six-low = (λ l. omega arith, (λ l. omega arith, (λ l. omega arith, (λ l. omega arith, (λ l. omega arith, (λ l. omega arith, tt))))))
+
+-- manual firing accepts them, each node fires at once, and then the queue holds exactly 10
+pub six-full : (Fires feed six × AtOnce feed six) × (heldAt (replayAnswer feed six .run) 0 ≡ 10)
+unfolding factoryAnswer replayAnswer
+six-full = ((refl, λ g k i e. firing-at LowAfter g k i (subst (Firings LowAfter) e six-low)), refl)

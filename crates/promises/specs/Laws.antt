@@ -1,0 +1,143 @@
+-- What the theorems of the demands are proved by: what a line of the analysis says, and permitted orders and immediate runs by their definitions.
+--   line-is, x-, y-, minimum-, by-, capacity-is
+--                            the line of a queue by 01's formulas, and its parts
+--   rate-x-is, rate-y-is     a node's reported rate
+--   report-is                the analysis that is answered
+--   prompt, follows-at       an order firing by firing, and a firing of it
+--   accepted, permits, state-is, moment, prompts
+--                            of a permitted order: its chain, its firings, its state, the state at each moment, and that it is prompt
+--   quiet, parts, sound, ends-in, keeps
+--                            of an immediate run: its checks, what they leave to be known, and its state
+--   Each, Firings            something holds at each moment of a list, or of each of its firings, one by one
+use mathlib.Core.Path.{_≡_, refl, sym, ap, subst, _∙_}
+use mathlib.Core.List.{List, [], _∷_, _++_}
+use Prim.Native.Nat.{ℕ, zero, suc, _+_, _≤_, _<_}
+use lib.ListN.{getD}
+use Rattle.ardenquill.specs.Chains.{rowOf, Sound}
+use Rattle.ardenquill.specs.Analyses.{xOf, yOf, source-rate, minimumOf, namingOf, capacityOf, sizeBy, sizeOf, noSize, size-at, analysisOf, analyseAnswer, Accepted, analysed, Enough}
+use Rattle.ardenquill.specs.Runs.{freshRun, answered, fired}
+use Rattle.ardenquill.specs.Histories.{after, Permitted, Prompt}
+use Rattle.ardenquill.specs.Immediate as immediate
+use Rattle.ardenquill.specs.Immediate.{F, Reached, schedule, Next, Follows, most, immediateRefusal, immediateAnswer, immediate-accepts, immediate-ran}
+use Rattle.ardenquill.specs.Records.{Chain, QueueSize, Analysis, AnalysisAnswer, Run}
+use Rattle.promises.specs.Replay.{line, rateX, rateY, replayAnswer, Fires, LowAt, AtOnce, Runs, accepts-is, fires-is, fires-state, fires-before}
+
+-- the line of a queue of an accepted chain
+module _ (c : Chain) (a : Accepted c) where
+  -- the whole analysis
+  pub report-is : analyseAnswer c .analysis ≡ analysisOf c
+  report-is = ap (λ (r : AnalysisAnswer). r .analysis) (analysed c refl (accepts-is c .1 a) .1)
+
+  module _ (j : ℕ) (l : j < c .n) where
+    pub line-is : line c j ≡ sizeOf c j
+    line-is = ap (λ (r : Analysis). getD (r .queues) j noSize) report-is ∙ size-at c j (a .chain .count .1) l
+
+    pub x-is : line c j .x ≡ xOf c (suc j)
+    unfolding sizeBy
+    x-is = ap (λ (q : QueueSize). q .x) line-is
+
+    pub y-is : line c j .y ≡ yOf c (suc j)
+    unfolding sizeBy
+    y-is = ap (λ (q : QueueSize). q .y) line-is
+
+    pub minimum-is : line c j .minimum ≡ minimumOf (rowOf c j)
+    unfolding sizeBy
+    minimum-is = ap (λ (q : QueueSize). q .minimum) line-is
+
+    pub by-is : line c j .by ≡ namingOf (rowOf c j)
+    unfolding sizeBy
+    by-is = ap (λ (q : QueueSize). q .by) line-is
+
+    pub capacity-is : line c j .capacity ≡ capacityOf (rowOf c j)
+    unfolding sizeBy
+    capacity-is = ap (λ (q : QueueSize). q .capacity) line-is
+
+  -- the rate of a node
+  pub rate-x-is : (i : ℕ) → i ≤ c .n → rateX c i ≡ xOf c i
+  rate-x-is zero l = sym (source-rate c .0)
+  rate-x-is (suc j) l = x-is j l
+
+  pub rate-y-is : (i : ℕ) → i ≤ c .n → rateY c i ≡ yOf c i
+  rate-y-is zero l = sym (source-rate c .1)
+  rate-y-is (suc j) l = y-is j l
+
+-- an order that fires each node only when the one that it feeds is below threshold, firing by firing
+prompt : (c : Chain) (s : Run) (h : List ℕ)
+    → ((before later : List ℕ) (i : ℕ) → h ≡ before ++ (i ∷ later) → LowAt c (after c s before) i) → Prompt c s h
+unfolding Prompt after
+prompt c s [] low = tt
+prompt c s (i ∷ h) low = (low [] h i refl, prompt c (fired c s i) h (λ g k m e. low (i ∷ g) k m (ap (λ (t : List ℕ). i ∷ t) e)))
+
+-- a firing of an order by the rule
+pub follows-at : (c : Chain) (s : Run) (g : List ℕ) (i : ℕ) (k : List ℕ) → Follows c s (g ++ (i ∷ k)) → Next c (after c s g) i
+unfolding Follows after
+follows-at c s [] i k p = p .0
+follows-at c s (m ∷ g) i k p = follows-at c (fired c s m) g i k (p .1)
+
+-- a permitted order
+module _ (c : Chain) (h : List ℕ) (ok : Fires c h) where
+  -- the chain is accepted
+  pub accepted : Accepted c
+  accepted = fires-is c h .0 ok .0
+
+  -- each firing is one that manual firing accepts
+  pub permits : Permitted c (freshRun c) h
+  permits = fires-is c h .0 ok .1
+
+  -- the state is the one that the firings lead to
+  pub state-is : replayAnswer c h .run ≡ after c (freshRun c) h
+  state-is = fires-state c h ok
+
+  -- the state at a moment
+  pub moment : (g k : List ℕ) → h ≡ g ++ k → replayAnswer c g .run ≡ after c (freshRun c) g
+  moment g k e = fires-state c g (fires-before c g k (subst (Fires c) e ok))
+
+  -- nodes that fire at once, as a history has it
+  pub prompts : AtOnce c h → Prompt c (freshRun c) h
+  prompts low = prompt c (freshRun c) h (λ g k i e. rw (moment g (i ∷ k) e) at (low g k i e))
+
+-- the immediate run of k source firings
+module _ (c : Chain) (k : ℕ) (ran : Runs c k) where
+  -- no check of the run speaks
+  pub quiet : immediateRefusal c k .number ≡ 0
+  unfolding immediateAnswer answered
+  quiet = ran
+
+  -- the chain is accepted, its capacities are enough, and its counts are within the limit
+  pub parts : (Accepted c × ((i : ℕ) → i < c .n → Enough c i)) × ((i : ℕ) → i ≤ c .n → F c k i ≤ most)
+  parts = immediate-accepts c k .0 quiet
+
+  -- so its fields are in their ranges
+  pub sound : Sound c
+  sound = parts .0 .0 .chain
+
+  -- the run ends in the state that its order leads to
+  pub ends-in : immediateAnswer c k .run ≡ after c (freshRun c) (schedule c k)
+  ends-in = immediate-ran c k quiet
+
+  -- which keeps what firings keep
+  pub keeps : Reached c (immediateAnswer c k .run)
+  keeps = rw ends-in (immediate.reached sound k)
+
+-- P holds at each moment of a list, of what it begins with
+unfoldable pub Each : (List ℕ → Type 0) → List ℕ → Type 0
+Each P [] = P []
+Each P (i ∷ h) = P [] × Each (λ g. P (i ∷ g)) h
+
+-- so of each beginning
+pub each-at : (P : List ℕ → Type 0) (g k : List ℕ) → Each P (g ++ k) → P g
+unfolding Each
+each-at P [] [] h = h
+each-at P [] (i ∷ k) h = h .0
+each-at P (i ∷ g) k h = each-at (λ l. P (i ∷ l)) g k (h .1)
+
+-- P holds of each firing of a list, and of what it was fired after
+unfoldable pub Firings : (List ℕ → ℕ → Type 0) → List ℕ → Type 0
+Firings P [] = Unit
+Firings P (i ∷ h) = P [] i × Firings (λ g. P (i ∷ g)) h
+
+-- so of each firing
+pub firing-at : (P : List ℕ → ℕ → Type 0) (g k : List ℕ) (i : ℕ) → Firings P (g ++ (i ∷ k)) → P g i
+unfolding Firings
+firing-at P [] k i h = h .0
+firing-at P (m ∷ g) k i h = firing-at (λ l. P (m ∷ l)) g k i (h .1)
