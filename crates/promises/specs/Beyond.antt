@@ -31,7 +31,7 @@ use Rattle.ardenquill.specs.Immediate as immediate
 use Rattle.ardenquill.specs.Immediate.{Reached, reached-after, below-minimum, schedule, immediateAnswer}
 use Rattle.ardenquill.specs.Ticks.{numberOf, valuesOf, kindOf, onward, ticks, instants, deadlineRunAnswer, ranAs, run-is-ticks, ticks-more, nodes, trace, resting, run-traced, run-never-spills}
 use Rattle.ardenquill.specs.Records.{Chain, Run, Outcome, Clean, Overflowed, NoDeadline, Ticked, TickAnswer}
-use Rattle.promises.specs.Replay.{line, replayAnswer, Fires, Sometime, Ample, LowAt, Low, AtOnce, Runs, fires-is, fires-state}
+use Rattle.promises.specs.Replay.{pOf, cOf, line, replayAnswer, Fires, Sometime, Ample, LowAt, Low, AtOnce, Runs, fires-is, fires-state}
 use Rattle.promises.specs.Laws.{minimum-is, by-is, accepted, permits, state-is, moment, prompts, Each, each-at, Firings, firing-at}
 use Rattle.promises.specs.ByTicks.{DeadlineRuns, may-run, answer-is}
 use Rattle.promises.specs.Demand2.{immediate-fires, immediate-state, immediate-rule, immediate-source, immediate-ends}
@@ -80,8 +80,8 @@ module _ (c : Chain) (T : ℕ) (ran : DeadlineRuns c T) where
   run-counted i l = ap (λ (s : Run). countAt s i) (sym run-state) ∙ demand.counted c (firings c T) run-fires i l
 
   -- "each queue holds what its producer's firings put in less what its consumer's took out"
-  pub run-balance : (j : ℕ) → j < c .n → start (rowOf c j) + rowOf c j .produce * times j (firings c T) ≡ heldAt (deadlineRunAnswer c T .run) j + rowOf c j .consume * times (suc j) (firings c T)
-  run-balance j l = subst (λ (s : Run). start (rowOf c j) + rowOf c j .produce * times j (firings c T) ≡ heldAt s j + rowOf c j .consume * times (suc j) (firings c T)) run-state (demand.balance c (firings c T) run-fires j l)
+  pub run-balance : (j : ℕ) → j < c .n → start (rowOf c j) + pOf c j * times j (firings c T) ≡ heldAt (deadlineRunAnswer c T .run) j + cOf c j * times (suc j) (firings c T)
+  run-balance j l = subst (λ (s : Run). start (rowOf c j) + pOf c j * times j (firings c T) ≡ heldAt s j + cOf c j * times (suc j) (firings c T)) run-state (demand.balance c (firings c T) run-fires j l)
 
   -- "in no permitted order can a producer fire as often as 01 names for its queue unless that queue has held at least the minimum"
   pub run-naming : (j : ℕ) → j < c .n → line c j .by ≤ countAt (deadlineRunAnswer c T .run) j → Sometime c (firings c T) (λ s. line c j .minimum ≤ heldAt s j)

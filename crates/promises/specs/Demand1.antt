@@ -36,67 +36,68 @@ use Rattle.ardenquill.specs.Immediate.{immediateChecks, immediateRefusal, immed
 use Rattle.ardenquill.specs.Deadlines.{answeredDue, deadlineChecks, deadlineRefusal, deadlineAnswer, deadline-refused}
 use Rattle.ardenquill.specs.Ticks as ticks
 use Rattle.ardenquill.specs.Ticks.{outcomeOf, tickChecks, tickRefusal, tickAnswer, deadlineRunChecks, deadlineRunRefusal, deadlineRunAnswer, KeptSlots, AlikeAnswers, question-alike, deadline-run-alike}
-use Rattle.promises.specs.Order as order
-use Rattle.promises.specs.Order.{InOrder, in-order}
+use Rattle.promises.specs.Order.{InOrder}
+use Rattle.promises.specs.Numbers as numbers
+use Rattle.promises.specs.Numbers.{in-order}
 
 -- "Bad input gets one of the listed refusal numbers with its place, in the listed order": a file that is read
 pub read-numbers : (f : List ℕ) → InOrder (1 ∷ 2 ∷ 3 ∷ 4 ∷ 5 ∷ []) (readChecks f) (readAnswer f .number) (readAnswer f .place)
 unfolding readAnswer chains.answered readRefusal
-read-numbers f = in-order _ _ (order.read-numbered f) _ _ refl
+read-numbers f = in-order _ _ (numbers.read-numbered f) _ _ refl
 
 -- a chain that is written
 pub write-numbers : (c : Chain) (o p : List ℕ) (a : LengthAnswer) → Output (writeRefusal c (length o)) (packed c) o p a → InOrder (2 ∷ 4 ∷ 5 ∷ 10 ∷ []) (writeChecks c (length o)) (a .number) (a .place)
 unfolding writeRefusal
-write-numbers c o p a w = in-order _ _ (order.write-numbered c (length o)) _ _ (ap (λ (x : LengthAnswer). refused (x .number) (x .place)) (w .answer))
+write-numbers c o p a w = in-order _ _ (numbers.write-numbered c (length o)) _ _ (ap (λ (x : LengthAnswer). refused (x .number) (x .place)) (w .answer))
 
 -- a file that is reported on
 pub report-numbers : (f o p : List ℕ) (a : LengthAnswer) → Output (reportRefusal f (length o)) (reportText f) o p a → InOrder (1 ∷ 2 ∷ 3 ∷ 4 ∷ 5 ∷ 6 ∷ 7 ∷ 10 ∷ []) (reportChecks f (length o)) (a .number) (a .place)
 unfolding reportRefusal
-report-numbers f o p a w = in-order _ _ (order.report-numbered f (length o)) _ _ (ap (λ (x : LengthAnswer). refused (x .number) (x .place)) (w .answer))
+report-numbers f o p a w = in-order _ _ (numbers.report-numbered f (length o)) _ _ (ap (λ (x : LengthAnswer). refused (x .number) (x .place)) (w .answer))
 
 -- a number that the factory is asked
 pub factory-numbers : (k : ℕ) → InOrder (14 ∷ []) (factoryCheck k ∷ []) (factoryAnswer k .number) (factoryAnswer k .place)
 unfolding factoryAnswer chains.answered factoryRefusal
-factory-numbers k = in-order _ _ (order.factory-numbered k) _ _ refl
+factory-numbers k = in-order _ _ (numbers.factory-numbered k) _ _ refl
 
 -- a chain that is analysed, checked for a run, or started
 module _ (c : Chain) where
   pub analyse-numbers : InOrder (2 ∷ 4 ∷ 5 ∷ 6 ∷ 7 ∷ []) (analyseChecks c) (analyseAnswer c .number) (analyseAnswer c .place)
   unfolding analyseAnswer sized analyseRefusal
-  analyse-numbers = in-order _ _ (order.analyse-numbered c) _ _ refl
+  analyse-numbers = in-order _ _ (numbers.analyse-numbered c) _ _ refl
 
   pub checked-numbers : InOrder (2 ∷ 4 ∷ 5 ∷ 6 ∷ 7 ∷ 8 ∷ []) (runChecks c) (runAnswer c .number) (runAnswer c .place)
   unfolding runAnswer sized runRefusal
-  checked-numbers = in-order _ _ (order.run-numbered c) _ _ refl
+  checked-numbers = in-order _ _ (numbers.run-numbered c) _ _ refl
 
   pub fresh-numbers : InOrder (2 ∷ 4 ∷ 5 ∷ 6 ∷ 7 ∷ []) (analyseChecks c) (freshAnswer c .number) (freshAnswer c .place)
   unfolding freshAnswer runs.answered analyseRefusal
-  fresh-numbers = in-order _ _ (order.analyse-numbered c) _ _ refl
+  fresh-numbers = in-order _ _ (numbers.analyse-numbered c) _ _ refl
 
   -- a manual firing, 17 "tested after 8 and before 9"
   pub fire-numbers : (s : Run) (i : ℕ) → InOrder (2 ∷ 4 ∷ 5 ∷ 6 ∷ 7 ∷ 17 ∷ 9 ∷ 11 ∷ 12 ∷ []) (fireChecks c s i) (fireAnswer c s i .number) (fireAnswer c s i .place)
   unfolding fireAnswer runs.answered fireRefusal
-  fire-numbers s i = in-order _ _ (order.fire-numbered c s i) _ _ refl
+  fire-numbers s i = in-order _ _ (numbers.fire-numbered c s i) _ _ refl
 
   -- an immediate run
   pub immediate-numbers : (k : ℕ) → InOrder (2 ∷ 4 ∷ 5 ∷ 6 ∷ 7 ∷ 8 ∷ 9 ∷ []) (immediateChecks c k) (immediateAnswer c k .number) (immediateAnswer c k .place)
   unfolding immediateAnswer runs.answered immediateRefusal
-  immediate-numbers k = in-order _ _ (order.immediate-numbered c k) _ _ refl
+  immediate-numbers k = in-order _ _ (numbers.immediate-numbered c k) _ _ refl
 
   -- a deadline question
   pub deadline-numbers : (i k : ℕ) → InOrder (2 ∷ 4 ∷ 5 ∷ 6 ∷ 7 ∷ 8 ∷ 11 ∷ 13 ∷ []) (deadlineChecks c i k) (deadlineAnswer c i k .number) (deadlineAnswer c i k .place)
   unfolding deadlineAnswer answeredDue deadlineRefusal
-  deadline-numbers i k = in-order _ _ (order.deadline-numbered c i k) _ _ refl
+  deadline-numbers i k = in-order _ _ (numbers.deadline-numbered c i k) _ _ refl
 
   -- a tick, 9 of the clock and then 9 of a count
   pub tick-numbers : (s : Run) → InOrder (2 ∷ 4 ∷ 5 ∷ 6 ∷ 7 ∷ 8 ∷ 17 ∷ 9 ∷ 9 ∷ []) (tickChecks c s) (tickAnswer c s .number) (tickAnswer c s .place)
   unfolding tickAnswer outcomeOf tickRefusal
-  tick-numbers s = in-order _ _ (order.tick-numbered c s) _ _ refl
+  tick-numbers s = in-order _ _ (numbers.tick-numbered c s) _ _ refl
 
   -- a deadline run
   pub deadline-run-numbers : (T : ℕ) → InOrder (2 ∷ 4 ∷ 5 ∷ 6 ∷ 7 ∷ 8 ∷ 9 ∷ []) (deadlineRunChecks c T) (deadlineRunAnswer c T .number) (deadlineRunAnswer c T .place)
   unfolding deadlineRunAnswer outcomeOf deadlineRunRefusal
-  deadline-run-numbers T = in-order _ _ (order.deadline-run-numbered c T) _ _ refl
+  deadline-run-numbers T = in-order _ _ (numbers.deadline-run-numbered c T) _ _ refl
 
 -- 01's "a refusal gives number and place, all other results zero"
 pub read-empty : (f : List ℕ) → readAnswer f .number ≢ 0 → readAnswer f .chain ≡ emptyChain

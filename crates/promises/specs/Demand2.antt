@@ -1,51 +1,52 @@
 -- Demand 2, of what the public calls answer.
 --   c, j, i, k, T, s         a chain, a queue (N_j feeds it and N_(j+1) empties it), a node, a number or an index, ticks, a run state
+--   pOf, τOf, cOf, workOf c j
+--                            p, τ and c of queue j, and e of N_(j+1)
 --   Accepts c, line c j, rateX c i, rateY c i
 --                            analyse does not refuse c; what it answers of queue j, and of N_i's rate (Replay)
---   p, τ, c of queue j       rowOf c j .produce, .threshold and .consume; its B is .capacity, and e of N_(j+1) is workOf c j
 --   rate-x, rate-y           "Node rates"
 --   Smallest, smallest, papers-agree, naming-count
 --                            "smallest capacities", as 000 and 004 write them, and the naming count of demand 3
 --   sumOf, load, load-exact, load-within
 --                            "load"
---   indexBefore, deadline-source, deadline-next
+--   indexBefore, deadline-when, deadline-source, deadline-next
 --                            "deadlines"
 --   May c s i, StateSound c s
 --                            9, 11 and 12 let N_i fire in s; s passes 17 (Runs)
 --   fire-when, FiredOnce, fire-does
 --                            "manual firing"
---   Runs c k, Fires c h, NearestFirst c h, Low c s
---                            the immediate run is not refused; a permitted order; by the rule; only the source may fire (Replay)
+--   Runs c k, Fires c h, NearestFirst c h, Low c s, Ample c j
+--                            the immediate run is not refused; a permitted order; by the rule; only the source may fire; a capacity that is not below the
+--                            minimum (Replay)
+--   schedule c k, F c k i    the firings of the immediate run, in order; how often N_i fires in it (Immediate)
 --   immediate-when, immediate-fires, -state, -rule, -source, -ends, -counts, -exact, -rest
---                            the one kind of run: accepted when; its firings and that they are by the rule; its exact counts
+--                            "both kinds of run", the immediate one: accepted when; its firings, and that they are by the rule; its exact counts
 --   DeadlineRuns c T, ticksFrom c T s
 --                            the deadline run is not refused; T ticks as their calls answer them (ByTicks)
 --   deadline-run-when, deadline-run-is, by-ticks, tick-when, tick-is, chosen-is
---                            the other kind: accepted when; 01's instants; tick by tick; one tick; and the node that works
+--                            the deadline run: accepted when; by 01's instants; tick by tick; one tick; and the node that works
 --   reads-back, writes-packed, packed-is-itself
 --                            "Reading a written chain file gives the chain back; writing a chain that was read gives the packed file"
 use mathlib.Core.Path.{_≡_, refl, sym, ap, subst, _∙_}
 use mathlib.Core.Logic.{_↔_, _≢_, Iff·trans, Iff·and, Iff·rfl}
 use mathlib.Core.List.{List, _++_}
 use Prim.Native.Nat.{ℕ, zero, suc, _+_, _-_, _*_, _/_, _≤_, _<_, _∣_}
-use native.Mathlib.Nat.{zero-mod, mod-eq-zero-of-dvd, dvd-of-mod-eq-zero, sub-zero, zero-add}
+use native.Mathlib.Nat.{sub-zero}
 use native.Mathlib.Omega.{arith}
 use lib.ListN.{length, take, drop, replicate}
-use borrow.Author.Tests.{lt-leb}
 use Rattle.ardenquill.specs.Chains.{rowOf, workOf, trimmed}
 use Rattle.ardenquill.specs.Files.{countOf, queuesAt, nodesAt, readAnswer, packedLength, packed, writeRefusal, Output, Bytes, packedFile, read-of-write, write-of-read, packed-again}
-use Rattle.ardenquill.specs.Analyses.{ceil, gcd, gcd-pos-left, residue, Largest, residue-largest, residue-000, residue-004, minimum-is, naming, common, nextX, nextY, xOf, yOf, y-multiple, busyIn, Enough, analysisOf, analyseAnswer, Accepted}
+use Rattle.ardenquill.specs.Analyses.{ceil, gcd, gcd-pos-left, residue, residue-000, residue-004, naming, common, nextX, nextY, xOf, yOf, y-multiple, busyIn, limit, analysisOf, analyseAnswer, Accepted}
 use Rattle.ardenquill.specs.Runs as runs
-use Rattle.ardenquill.specs.Runs.{countAt, heldAt, freshRun, fired, over, May, StateSound, Whole, Firing, firing-is, fireAnswer, fire-accepts, fire-accepted, count-fired, count-other, held-output, held-input, held-other, over-enough}
+use Rattle.ardenquill.specs.Runs.{countAt, heldAt, freshRun, fired, over, May, StateSound, Whole, Firing, firing-is, fireAnswer, fire-accepts, fire-accepted, count-fired, count-other, held-output, held-other}
 use Rattle.ardenquill.specs.Histories.{times}
 use Rattle.ardenquill.specs.Immediate as immediate
 use Rattle.ardenquill.specs.Immediate.{F, fires, fires-below, fires-from, schedule, Follows, rule, most, immediateAnswer, immediate-accepts, permitted, counts-are-F}
 use Rattle.ardenquill.specs.Deadlines.{earlier, earlier-some, deadline, index, answeredDue, deadlineAnswer, deadline-accepts, deadline-due}
 use Rattle.ardenquill.specs.Ticks.{clean, onward, next, chosen, worked, begun, advanced, finished, tick, instants, longest, outcomeOf, tickAnswer, deadlineRunAnswer, ranAs, Ticking, ticking-is, tick-ran, deadline-run-accepts, Best, chosen-best}
 use Rattle.ardenquill.specs.Records.{Chain, ChainAnswer, LengthAnswer, Analysis, Run}
-use Rattle.promises.specs.Replay.{Accepts, line, rateX, rateY, replayAnswer, Fires, Ample, Low, NearestFirst, Runs, accepts-is, fires-is}
-use Rattle.promises.specs.Laws as laws
-use Rattle.promises.specs.Laws.{report-is, x-is, y-is, by-is, capacity-is, rate-x-is, rate-y-is, state-is, moment, follows-at, parts, sound, ends-in, keeps}
+use Rattle.promises.specs.Replay.{pOf, τOf, cOf, Accepts, line, rateX, rateY, replayAnswer, Fires, Ample, Low, NearestFirst, Runs, accepts-is, fires-is}
+use Rattle.promises.specs.Laws.{report-is, x-is, y-is, by-is, capacity-is, rate-x-is, rate-y-is, last, minimum-by, minimum-as, largest-multiple, may-run-is, index-down, taken, state-is, moment, follows-at, parts, sound, ends-in, keeps, fed-by}
 use Rattle.promises.specs.ByTicks.{DeadlineRuns, ticksFrom, answer-is, ticks-are-run}
 
 -- 01's "with g = gcd(p,c), the largest multiple of g below τ, plus p"
@@ -61,64 +62,49 @@ unfoldable pub sumOf : Chain → ℕ → ℕ → ℕ
 sumOf c y zero = 0
 sumOf c y (suc j) = sumOf c y j + workOf c j * line c j .x * (y / line c j .y)
 
--- the largest multiple of g below τ, by remainders
-largest-multiple : (τ g r : ℕ) → Largest 0 τ g r → (g ∣ r) × ((m : ℕ) → g ∣ m → m < τ → m ≤ r)
-largest-multiple τ g r l = (dvd-of-mod-eq-zero g (l .rest ∙ zero-mod g), λ m d b. l .top m b (mod-eq-zero-of-dvd g d ∙ sym (zero-mod g)))
-
--- the sum is the one that the load is defined by
+-- which is the one that the load is defined by
 sum-is : (c : Chain) → Accepted c → (y i : ℕ) → i ≤ c .n → sumOf c y i ≡ busyIn c y i
 unfolding sumOf busyIn
 sum-is c a y zero l = refl
 sum-is c a y (suc j) l = rw (sum-is c a y j (omega arith), x-is c a j l, y-is c a j l)
 
 module _ (c : Chain) (ok : Accepts c) where
-  -- the chain is accepted
+  -- no check of the analysis speaks
   known : Accepted c
   known = accepts-is c .0 ok
 
   module _ (j : ℕ) (l : j < c .n) where
-    -- "Node rates .. equal the published Processing Graph Method rules as document 01 condenses them": 003, equation 1
-    pub rate-x : line c j .x ≡ rowOf c j .produce * rateX c j / gcd (rowOf c j .produce * rateX c j) (rowOf c j .consume)
+    -- "Node rates .. equal the published Processing Graph Method rules as document 01 condenses them": "x_(i+1) = p×x_i/g", "g = gcd(p×x_i, c)"
+    pub rate-x : line c j .x ≡ pOf c j * rateX c j / gcd (pOf c j * rateX c j) (cOf c j)
     unfolding xOf nextX common
     rate-x = x-is c known j l ∙ rw (rate-x-is c known j (omega arith))
 
-    pub rate-y : line c j .y ≡ rowOf c j .consume * rateY c j / gcd (rowOf c j .produce * rateX c j) (rowOf c j .consume)
+    -- and "y_(i+1) = c×y_i/g (003, equation 1)"
+    pub rate-y : line c j .y ≡ cOf c j * rateY c j / gcd (pOf c j * rateX c j) (cOf c j)
     unfolding yOf nextY common
     rate-y = y-is c known j l ∙ rw (rate-x-is c known j (omega arith), rate-y-is c known j (omega arith))
 
-    -- the residue of the queue
-    last : Largest 0 (rowOf c j .threshold) (gcd (rowOf c j .produce) (rowOf c j .consume)) (residue 0 (rowOf c j .threshold) (gcd (rowOf c j .produce) (rowOf c j .consume)))
-    last = residue-largest 0 _ _ (known .chain .rows j l .threshold .0) (gcd-pos-left _ _ (known .chain .rows j l .produce .0))
-
-    -- its minimum by it
-    minimum-by : line c j .minimum ≡ residue 0 (rowOf c j .threshold) (gcd (rowOf c j .produce) (rowOf c j .consume)) + rowOf c j .produce
-    minimum-by = laws.minimum-is c known j l ∙ minimum-is 0 _ _ _ _ (known .chain .rows j l .threshold .0) (known .chain .rows j l .produce .0) last
-
-    -- so by what else the residue is
-    minimum-as : {r : ℕ} → residue 0 (rowOf c j .threshold) (gcd (rowOf c j .produce) (rowOf c j .consume)) ≡ r → line c j .minimum ≡ r + rowOf c j .produce
-    minimum-as e = minimum-by ∙ ap (λ (n : ℕ). n + rowOf c j .produce) e
-
-    -- "smallest capacities": 000, Lemma 1
-    pub smallest : Smallest (rowOf c j .produce) (rowOf c j .threshold) (rowOf c j .consume) (line c j .minimum)
+    -- "smallest capacities .. equal the published Processing Graph Method rules as document 01 condenses them" (000, Lemma 1)
+    pub smallest : Smallest (pOf c j) (τOf c j) (cOf c j) (line c j .minimum)
     smallest =
-        let m = largest-multiple _ _ _ last in
-        record { multiple = residue 0 (rowOf c j .threshold) (gcd (rowOf c j .produce) (rowOf c j .consume)); is = minimum-by; divides = m .0; below = last .below; largest = m .1 }
+        let m = largest-multiple _ _ _ (last c known j l) in
+        record { multiple = residue 0 (τOf c j) (gcd (pOf c j) (cOf c j)); is = minimum-by c known j l; divides = m .0; below = last c known j l .below; largest = m .1 }
 
     -- 01's "000 and 004 write the residue below threshold differently, but the values agree": b as 000 writes it, and as 004 does where g divides τ and where not
-    pub papers-agree : let g = gcd (rowOf c j .produce) (rowOf c j .consume) in
-        (line c j .minimum ≡ (ceil (rowOf c j .threshold) g - 1) * g + rowOf c j .produce)
-        × (((k : ℕ) → rowOf c j .threshold ≡ k * g → line c j .minimum ≡ rowOf c j .threshold - g + rowOf c j .produce)
-        × (((k : ℕ) → rowOf c j .threshold ≢ k * g) → line c j .minimum ≡ rowOf c j .threshold / g * g + rowOf c j .produce))
+    pub papers-agree : let g = gcd (pOf c j) (cOf c j) in
+        (line c j .minimum ≡ (ceil (τOf c j) g - 1) * g + pOf c j)
+        × (((k : ℕ) → τOf c j ≡ k * g → line c j .minimum ≡ τOf c j - g + pOf c j)
+        × (((k : ℕ) → τOf c j ≢ k * g) → line c j .minimum ≡ τOf c j / g * g + pOf c j))
     papers-agree =
-        let two = residue-004 (rowOf c j .threshold) _ (gcd-pos-left _ (rowOf c j .consume) (known .chain .rows j l .produce .0)) in
-        (minimum-as (residue-000 (rowOf c j .threshold) _), (λ k e. minimum-as (two .0 k e), λ n. minimum-as (two .1 n)))
+        let two = residue-004 (τOf c j) _ (gcd-pos-left _ (cOf c j) (known .chain .rows j l .produce .0)) in
+        (minimum-as c known j l (residue-000 (τOf c j) _), (λ k e. minimum-as c known j l (two .0 k e), λ n. minimum-as c known j l (two .1 n)))
 
-    -- 01's "the naming count of demand 3: (τ−c)/p rounded up, plus c/g"
-    pub naming-count : line c j .by ≡ ceil (rowOf c j .threshold - rowOf c j .consume) (rowOf c j .produce) + rowOf c j .consume / gcd (rowOf c j .produce) (rowOf c j .consume)
+    -- 01's "naming count of demand 3: (τ−c)/p rounded up, plus c/g"
+    pub naming-count : line c j .by ≡ ceil (τOf c j - cOf c j) (pOf c j) + cOf c j / gcd (pOf c j) (cOf c j)
     unfolding naming
     naming-count = by-is c known j l ∙ rw sub-zero
 
-  -- "load": busy per cycle
+  -- "load .. equal the published Processing Graph Method rules as document 01 condenses them": busy, "per cycle y_n"
   pub load : (analyseAnswer c .analysis .cycle ≡ rateY c (c .n)) × (analyseAnswer c .analysis .busy ≡ sumOf c (analyseAnswer c .analysis .cycle) (c .n))
   unfolding analysisOf
   load =
@@ -129,82 +115,76 @@ module _ (c : Chain) (ok : Accepts c) where
   pub load-exact : (j : ℕ) → j < c .n → line c j .y ∣ analyseAnswer c .analysis .cycle
   load-exact j l = rw (load .0, rate-y-is c known (c .n) (omega arith), y-is c known j l) (y-multiple c (known .chain) (c .n) (suc j) l (omega arith))
 
-  -- and "exact busy above y_n" is refused
+  -- and of an accepted chain it is no "exact busy above y_n"
   pub load-within : analyseAnswer c .analysis .busy ≤ analyseAnswer c .analysis .cycle
   unfolding analysisOf
   load-within = rw (report-is c known) (known .load)
 
 -- 01's "index ((k−1)×c+B)/p rounded down, plus 1" at N_i, for index k at N_(i+1), B being the capacity in force of the queue between
 abbrev pub indexBefore : Chain → ℕ → ℕ → ℕ
-indexBefore c i k = ((k - 1) * rowOf c i .consume + line c i .capacity) / rowOf c i .produce + 1
+indexBefore c i k = ((k - 1) * cOf c i + line c i .capacity) / pOf c i + 1
 
--- N_j's index on the way down from N_(i+1) is that from N_i
-index-down : (c : Chain) (i k j : ℕ) → j ≤ i → index c (suc i) k j ≡ index c i (earlier (rowOf c i) k) j
-unfolding index
-index-down c i k j l = simp (lt-leb (suc i) j (omega arith))
+-- "deadlines .. equal the published Processing Graph Method rules as document 01 condenses them" (000, definition 1): a question is answered exactly when the
+-- chain may run, node and firing exist, and no index on the way down passes the limit
+pub deadline-when : (c : Chain) (i k : ℕ)
+    → (deadlineAnswer c i k .number ≡ 0) ↔ ((Accepts c × ((j : ℕ) → j < c .n → Ample c j)) × (((i ≤ c .n) × (1 ≤ k)) × ((j : ℕ) → j ≤ i → index c i k j ≤ limit)))
+unfolding deadlineAnswer answeredDue
+deadline-when c i k = Iff·trans (deadline-accepts c i k) (Iff·and (may-run-is c) Iff·rfl)
 
--- "deadlines": 000, definition 1, of the source
+-- "(k−1)×y for N_0"
 pub deadline-source : (c : Chain) (k : ℕ) → deadlineAnswer c 0 k .number ≡ 0 → deadlineAnswer c 0 k .due ≡ (k - 1) * c .period
 unfolding deadlineAnswer answeredDue deadline
 deadline-source c k asked = deadline-due c 0 k asked
 
--- and of every other node: the node before it is asked, and answers the deadline
+-- "else N_(i−1)'s deadline for index" as above, which is answered, too
 pub deadline-next : (c : Chain) (i k : ℕ) → deadlineAnswer c (suc i) k .number ≡ 0
     → (deadlineAnswer c i (indexBefore c i k) .number ≡ 0) × (deadlineAnswer c (suc i) k .due ≡ deadlineAnswer c i (indexBefore c i k) .due)
 unfolding deadlineAnswer answeredDue deadline earlier
 deadline-next c i k asked =
     let p = deadline-accepts c (suc i) k .0 asked in
     let same : earlier (rowOf c i) k ≡ indexBefore c i k = rw (capacity-is c (p .0 .0) i (p .1 .0 .0)) in
-    let answered = deadline-accepts c i (indexBefore c i k) .1 (p .0, ((omega (arith, p .1 .0 .0), rw (← same) (earlier-some (rowOf c i) k)), λ j l. rw (← same, ← index-down c i k j l) (p .1 .1 j (omega arith)))) in
-    (answered, deadline-due c (suc i) k asked ∙ ap (deadline c i) same ∙ sym (deadline-due c i (indexBefore c i k) answered))
+    let too = deadline-accepts c i (indexBefore c i k) .1 (p .0, ((omega (arith, p .1 .0 .0), rw (← same) (earlier-some (rowOf c i) k)), λ j l. rw (← same, ← index-down c i k j l) (p .1 .1 j (omega arith)))) in
+    (too, deadline-due c (suc i) k asked ∙ ap (deadline c i) same ∙ sym (deadline-due c i (indexBefore c i k) too))
 
--- 01's "a finished firing adds p to the output queue, if any, then removes c from the input queue, if any", and "changes only the fired node's count and
--- the contents of its queues"; t is the state after it
+-- 01's "finished firing adds p to the output queue, if any, then removes c from the input queue, if any", and "changes only the fired node's count and the
+-- contents of its queues, not clock or work done"; t is the state after it
 pub record FiredOnce (c : Chain) (s : Run) (i : ℕ) (t : Run) : Type 0 where
   pub count : countAt t i ≡ countAt s i + 1
   pub counts : (m : ℕ) → m ≢ i → countAt t m ≡ countAt s m
-  pub output : i < c .n → heldAt t i ≡ heldAt s i + rowOf c i .produce
-  pub input : (j : ℕ) → i ≡ suc j → heldAt t j + rowOf c j .consume ≡ heldAt s j
+  pub output : i < c .n → heldAt t i ≡ heldAt s i + pOf c i
+  pub input : (j : ℕ) → i ≡ suc j → heldAt t j + cOf c j ≡ heldAt s j
   pub others : (j : ℕ) → j ≢ i → suc j ≢ i → heldAt t j ≡ heldAt s j
   pub clock : t .clock ≡ s .clock
   pub done : t .done ≡ s .done
 
 module _ (c : Chain) (s : Run) (i : ℕ) where
-  -- "manual firing" is accepted exactly when the chain is, the state passes 17, and 9, 11 and 12 are silent
+  -- "manual firing .. equal the published Processing Graph Method rules as document 01 condenses them" (004, definition 5.2): it is accepted exactly when the chain
+  -- is, the state passes 17, and 9, 11 and 12 are silent
   pub fire-when : (fireAnswer c s i .number ≡ 0) ↔ (Accepts c × (StateSound c s × May c s i))
   unfolding fireAnswer runs.answered
   fire-when = Iff·trans (fire-accepts c s i) (Iff·and (accepts-is c .1, accepts-is c .0) Iff·rfl)
 
-  -- what it does to a state of 17 counts and 16 queues, as every state is
+  -- and what it then does to a state of 17 counts and 16 queues, as every state is
   pub fire-does : Whole s → fireAnswer c s i .number ≡ 0 → FiredOnce c s i (fireAnswer c s i .run)
   unfolding fireAnswer runs.answered fired
-  fire-does w ok = rw (fire-accepted c s i ok) (record {
-    count = count-fired c s i (omega (arith, w .counts, few, f .may .node));
-    counts = count-other c s i;
-    output = λ l. held-output c s i l (omega (arith, w .held, few));
-    input = λ j e. input j e (rw e at f);
-    others = held-other c s i;
-    clock = refl;
-    done = refl;
-  })
-    where
-      f : Firing c s i
-      f = firing-is c s i .0 ok
+  fire-does w ok =
+      let f : Firing c s i = firing-is c s i .0 ok in
+      rw (fire-accepted c s i ok) (record {
+        count = count-fired c s i (omega (arith, w .counts, f .chain .chain .count .1, f .may .node));
+        counts = count-other c s i;
+        output = λ l. held-output c s i l (omega (arith, w .held, f .chain .chain .count .1));
+        input = λ j e. rw e (taken w (rw e at f));
+        others = held-other c s i;
+        clock = refl;
+        done = refl;
+      })
 
-      few : c .n ≤ 16
-      few = f .chain .chain .count .1
-
-      input : (j : ℕ) → i ≡ suc j → Firing c s (suc j) → heldAt (fired c s i) j + rowOf c j .consume ≡ heldAt s j
-      input j e g = rw e (held-input c s j (omega (arith, w .held, g .chain .chain .count .1, g .may .node)) (over-enough (g .chain .chain) s j (g .may .node) (g .may .over)))
-
--- "both kinds of run", the immediate one: it is accepted exactly when the chain is, "no capacity is below the reported minimum", and no count passes the limit
+-- "both kinds of run equal the published Processing Graph Method rules as document 01 condenses them", the immediate one: it is accepted exactly when the chain
+-- is, no capacity is below the minimum, and no count passes the limit
 pub immediate-when : (c : Chain) (k : ℕ)
     → Runs c k ↔ ((Accepts c × ((j : ℕ) → j < c .n → Ample c j)) × ((i : ℕ) → i ≤ c .n → F c k i ≤ most))
 unfolding immediateAnswer runs.answered
-immediate-when c k = (
-  λ ran. let p = immediate-accepts c k .0 ran in ((accepts-is c .1 (p .0 .0), λ j l. rw (laws.minimum-is c (p .0 .0) j l) (p .0 .1 j l)), p .1),
-  λ p. let a : Accepted c = accepts-is c .0 (p .0 .0) in immediate-accepts c k .1 ((a, λ j l. rw (laws.minimum-is c a j l) at (p .0 .1 j l)), p .1),
-)
+immediate-when c k = Iff·trans (immediate-accepts c k) (Iff·and (may-run-is c) Iff·rfl)
 
 module _ (c : Chain) (k : ℕ) (ran : Runs c k) where
   -- manual firing accepts each of its firings in turn
@@ -215,14 +195,15 @@ module _ (c : Chain) (k : ℕ) (ran : Runs c k) where
   pub immediate-state : immediateAnswer c k .run ≡ replayAnswer c (schedule c k) .run
   immediate-state = ends-in c k ran ∙ sym (state-is c (schedule c k) immediate-fires)
 
-  -- they are by 01's rule: "no source firing happens while another node may fire, and among those that may, the one nearest the sink goes first"
+  -- they are by 01's rule: "No source firing happens while another node may fire, and among those that may, the one nearest the sink goes first"
   pub immediate-rule : NearestFirst c (schedule c k)
   immediate-rule g l i e = rw (moment c (schedule c k) immediate-fires g _ e) (follows-at c (freshRun c) g i l (subst (Follows c (freshRun c)) e (rule (sound c k ran) k)))
 
-  -- "a run of k source firings", which ends with no other node to fire
+  -- "a run of k source firings"
   pub immediate-source : times 0 (schedule c k) ≡ k
   immediate-source = immediate.source (sound c k ran) k
 
+  -- which ends with no other node to fire
   pub immediate-ends : Low c (immediateAnswer c k .run)
   immediate-ends = rw (ends-in c k ran) (λ j l. immediate.ends (sound c k ran) k j (omega arith) l)
 
@@ -230,30 +211,29 @@ module _ (c : Chain) (k : ℕ) (ran : Runs c k) where
   pub immediate-counts : (i : ℕ) → i ≤ c .n → countAt (immediateAnswer c k .run) i ≡ F c k i
   immediate-counts i l = rw (ends-in c k ran) (counts-are-F (sound c k ran) k i l)
 
-  -- N_(i+1)'s is what N_i's puts in allows
-  fed-by : (i : ℕ) → i < c .n → countAt (immediateAnswer c k .run) (suc i) ≡ fires (rowOf c i .threshold) (rowOf c i .consume) (rowOf c i .produce * countAt (immediateAnswer c k .run) i)
+  -- "F_0 = k; F_(i+1) is 0 while p×F_i is below τ, else (p×F_i − τ)/c rounded down, plus 1 (004, Lemma 5.1)"
+  pub immediate-exact : let N = countAt (immediateAnswer c k .run) in
+      (N 0 ≡ k) × ((i : ℕ) → i < c .n → (pOf c i * N i < τOf c i → N (suc i) ≡ 0) × (τOf c i ≤ pOf c i * N i → N (suc i) ≡ (pOf c i * N i - τOf c i) / cOf c i + 1))
   unfolding F
-  fed-by i l = immediate-counts (suc i) l ∙ ap (fires (rowOf c i .threshold) (rowOf c i .consume)) (zero-add _) ∙ sym (rw (immediate-counts i (omega arith)))
-
-  -- 01's "F_0 = k; F_(i+1) is 0 while p×F_i is below τ, else (p×F_i − τ)/c rounded down, plus 1 (004, Lemma 5.1)"
-  pub immediate-exact : (countAt (immediateAnswer c k .run) 0 ≡ k)
-      × ((i : ℕ) → i < c .n
-      → (rowOf c i .produce * countAt (immediateAnswer c k .run) i < rowOf c i .threshold → countAt (immediateAnswer c k .run) (suc i) ≡ 0)
-      × (rowOf c i .threshold ≤ rowOf c i .produce * countAt (immediateAnswer c k .run) i
-      → countAt (immediateAnswer c k .run) (suc i) ≡ (rowOf c i .produce * countAt (immediateAnswer c k .run) i - rowOf c i .threshold) / rowOf c i .consume + 1))
-  unfolding F
-  immediate-exact = (immediate-counts 0 (omega arith), λ i l. (λ b. fed-by i l ∙ fires-below _ _ _ b, λ b. fed-by i l ∙ fires-from _ _ _ b))
+  immediate-exact = (
+    immediate-counts 0 (omega arith),
+    λ i l.
+        let by = immediate-counts (suc i) l ∙ fed-by c k i ∙ ap (λ (m : ℕ). fires (τOf c i) (cOf c i) (pOf c i * m)) (sym (immediate-counts i (omega arith))) in
+        (λ b. by ∙ fires-below _ _ _ b, λ b. by ∙ fires-from _ _ _ b),
+  )
 
   -- "clock and work done stay 0"
   pub immediate-rest : (immediateAnswer c k .run .clock ≡ 0) × (immediateAnswer c k .run .done ≡ replicate 16 0)
   immediate-rest = (keeps c k ran .clock, keeps c k ran .done)
 
--- the other, the deadline run, is accepted exactly when the chain is, its capacities are enough, and "T at most 1,000,000"
-pub deadline-run-when : (c : Chain) (T : ℕ) → DeadlineRuns c T ↔ ((Accepted c × ((j : ℕ) → j < c .n → Enough c j)) × (T ≤ longest))
+-- "both kinds of run equal the published Processing Graph Method rules as document 01 condenses them", the deadline run: it is accepted exactly when the chain is,
+-- no capacity is below the minimum, and "T at most 1,000,000"
+pub deadline-run-when : (c : Chain) (T : ℕ) → DeadlineRuns c T ↔ ((Accepts c × ((j : ℕ) → j < c .n → Ample c j)) × (T ≤ longest))
 unfolding deadlineRunAnswer outcomeOf
-deadline-run-when = deadline-run-accepts
+deadline-run-when c T = Iff·trans (deadline-run-accepts c T) (Iff·and (may-run-is c) Iff·rfl)
 
--- it is by 01's instants: "the firing finished by then takes effect; then the source ..; then .. works one tick. At instant T only a finished firing takes effect"
+-- it is by 01's instants: "At each instant t below T: the firing finished by then takes effect; then the source fires ..; then .. works one tick"; "At instant T only
+-- a finished firing takes effect"
 pub deadline-run-is : (c : Chain) (T : ℕ) → DeadlineRuns c T → deadlineRunAnswer c T ≡ ranAs (instants c T (freshRun c))
 deadline-run-is = answer-is
 
@@ -267,13 +247,13 @@ module _ (c : Chain) (s : Run) where
   unfolding tickAnswer outcomeOf
   tick-when = ticking-is c s
 
-  -- 01's "one tick at clock t is the source's step, one tick of work, the clock going to t+1, and the effect at t+1 of a firing then finished"; 13 is looked
-  -- for after the source's step (begun)
+  -- "One tick at clock t is the source's step, one tick of work, the clock going to t+1, and the effect at t+1 of a firing then finished"; 13 is looked for after the
+  -- source's step (begun)
   pub tick-is : tickAnswer c s .number ≡ 0 → tickAnswer c s ≡ ranAs (onward (onward (begun c s) (λ u. clean (worked u (chosen c u)))) (finished c))
   unfolding tickAnswer outcomeOf tick advanced
   tick-is ok = tick-ran c s ok
 
-  -- the node that works is 01's "over-threshold node whose next firing has the earliest deadline, ties to the one nearest the sink"
+  -- the node that works is "the over-threshold node whose next firing has the earliest deadline, ties to the one nearest the sink"
   pub chosen-is : Best (λ i. deadline c i (next s i)) (over c s) (c .n) (chosen c s)
   chosen-is = chosen-best c s
 
@@ -289,7 +269,7 @@ pub writes-packed : (f o p : List ℕ) (r : ChainAnswer) (a : LengthAnswer) → 
     → (a ≡ record { number = 0; place = 0; length = packedLength (countOf f) }) × (p ≡ packedFile f ++ drop (packedLength (countOf f)) o)
 writes-packed = write-of-read
 
--- and where the file that was read was packed, the packed file is that file
+-- which is that file itself where it was packed
 pub packed-is-itself : (f : List ℕ) → Bytes f → readAnswer f .number ≡ 0 → queuesAt f ≡ 20 → nodesAt f ≡ 20 + 20 * countOf f → length f ≡ packedLength (countOf f) → packedFile f ≡ f
 unfolding readAnswer
 packed-is-itself = packed-again

@@ -26,7 +26,7 @@ use Rattle.ardenquill.specs.Histories.{times, after, at-some, HasHeld}
 use Rattle.ardenquill.specs.Immediate as immediate
 use Rattle.ardenquill.specs.Immediate.{F, schedule, immediateAnswer}
 use Rattle.ardenquill.specs.Records.{Chain}
-use Rattle.promises.specs.Replay.{Accepts, line, replayAnswer, Fires, Always, Sometime, AtOnce, NearestFirst, Runs, accepts-is}
+use Rattle.promises.specs.Replay.{pOf, cOf, Accepts, line, replayAnswer, Fires, Always, Sometime, AtOnce, NearestFirst, Runs, accepts-is}
 use Rattle.promises.specs.Laws.{x-is, y-is, minimum-is, by-is, accepted, permits, state-is, moment, prompts, parts}
 use Rattle.promises.specs.Demand2.{immediate-fires, immediate-rule, immediate-counts}
 
@@ -40,7 +40,7 @@ module _ (c : Chain) (h : List ℕ) (ok : Fires c h) where
   counted i l = rw (state-is c h ok) (histories.counted c (accepted c h ok) h i l)
 
   -- "after any permitted firings, each queue holds what its producer's firings put in less what its consumer's took out", as a sum
-  pub balance : (j : ℕ) → j < c .n → start (rowOf c j) + rowOf c j .produce * times j h ≡ heldAt (replayAnswer c h .run) j + rowOf c j .consume * times (suc j) h
+  pub balance : (j : ℕ) → j < c .n → start (rowOf c j) + pOf c j * times j h ≡ heldAt (replayAnswer c h .run) j + cOf c j * times (suc j) h
   balance j l = rw (state-is c h ok) (histories.balance c (accepted c h ok) h (permits c h ok) j l)
 
   -- "When nodes fire at once, the one nearest the sink first, and no capacity is below the reported minimum, no queue passes that minimum", at no moment: of every

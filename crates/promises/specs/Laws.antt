@@ -3,6 +3,11 @@
 --                            the line of a queue by 01's formulas, and its parts
 --   rate-x-is, rate-y-is     a node's reported rate
 --   report-is                the analysis that is answered
+--   last, minimum-by, minimum-as, largest-multiple
+--                            the residue of a queue, its minimum by it and by what else it is, and that it is a largest multiple
+--   may-run-is               two ways to say of a chain that it may run
+--   index-down               an index on the way down to the source
+--   taken, fed-by            what a firing takes, and a count from the one before it
 --   prompt, follows-at       an order firing by firing, and a firing of it
 --   accepted, permits, state-is, moment, prompts
 --                            of a permitted order: its chain, its firings, its state, the state at each moment, and that it is prompt
@@ -10,17 +15,23 @@
 --                            of an immediate run: its checks, what they leave to be known, and its state
 --   Each, Firings            something holds at each moment of a list, or of each of its firings, one by one
 use mathlib.Core.Path.{_≡_, refl, sym, ap, subst, _∙_}
+use mathlib.Core.Logic.{_↔_}
 use mathlib.Core.List.{List, [], _∷_, _++_}
-use Prim.Native.Nat.{ℕ, zero, suc, _+_, _≤_, _<_}
+use Prim.Native.Nat.{ℕ, zero, suc, _+_, _*_, _≤_, _<_, _∣_}
+use native.Mathlib.Nat.{zero-add, zero-mod, mod-eq-zero-of-dvd, dvd-of-mod-eq-zero}
+use native.Mathlib.Omega.{arith}
 use lib.ListN.{getD}
+use borrow.Author.Tests.{lt-leb}
 use Rattle.ardenquill.specs.Chains.{rowOf, Sound}
-use Rattle.ardenquill.specs.Analyses.{xOf, yOf, source-rate, minimumOf, namingOf, capacityOf, sizeBy, sizeOf, noSize, size-at, analysisOf, analyseAnswer, Accepted, analysed, Enough}
-use Rattle.ardenquill.specs.Runs.{freshRun, answered, fired}
+use Rattle.ardenquill.specs.Analyses as sizes
+use Rattle.ardenquill.specs.Analyses.{gcd, gcd-pos-left, residue, Largest, residue-largest, xOf, yOf, source-rate, minimumOf, namingOf, capacityOf, sizeBy, sizeOf, noSize, size-at, analysisOf, analyseAnswer, Accepted, analysed, Enough}
+use Rattle.ardenquill.specs.Runs.{heldAt, freshRun, answered, fired, Whole, Firing, held-input, over-enough}
 use Rattle.ardenquill.specs.Histories.{after, Permitted, Prompt}
 use Rattle.ardenquill.specs.Immediate as immediate
-use Rattle.ardenquill.specs.Immediate.{F, Reached, schedule, Next, Follows, most, immediateRefusal, immediateAnswer, immediate-accepts, immediate-ran}
+use Rattle.ardenquill.specs.Immediate.{F, fires, Reached, schedule, Next, Follows, most, immediateRefusal, immediateAnswer, immediate-accepts, immediate-ran}
+use Rattle.ardenquill.specs.Deadlines.{earlier, index}
 use Rattle.ardenquill.specs.Records.{Chain, QueueSize, Analysis, AnalysisAnswer, Run}
-use Rattle.promises.specs.Replay.{line, rateX, rateY, replayAnswer, Fires, LowAt, AtOnce, Runs, accepts-is, fires-is, fires-state, fires-before}
+use Rattle.promises.specs.Replay.{pOf, τOf, cOf, Accepts, Ample, line, rateX, rateY, replayAnswer, Fires, LowAt, AtOnce, Runs, accepts-is, fires-is, fires-state, fires-before}
 
 -- the line of a queue of an accepted chain
 module _ (c : Chain) (a : Accepted c) where
@@ -52,6 +63,18 @@ module _ (c : Chain) (a : Accepted c) where
     unfolding sizeBy
     capacity-is = ap (λ (q : QueueSize). q .capacity) line-is
 
+    -- the residue of the queue
+    pub last : Largest 0 (τOf c j) (gcd (pOf c j) (cOf c j)) (residue 0 (τOf c j) (gcd (pOf c j) (cOf c j)))
+    last = residue-largest 0 _ _ (a .chain .rows j l .threshold .0) (gcd-pos-left _ _ (a .chain .rows j l .produce .0))
+
+    -- its minimum by it
+    pub minimum-by : line c j .minimum ≡ residue 0 (τOf c j) (gcd (pOf c j) (cOf c j)) + pOf c j
+    minimum-by = minimum-is ∙ sizes.minimum-is 0 _ _ _ _ (a .chain .rows j l .threshold .0) (a .chain .rows j l .produce .0) last
+
+    -- so by what else the residue is
+    pub minimum-as : {r : ℕ} → residue 0 (τOf c j) (gcd (pOf c j) (cOf c j)) ≡ r → line c j .minimum ≡ r + pOf c j
+    minimum-as e = minimum-by ∙ ap (λ (n : ℕ). n + pOf c j) e
+
   -- the rate of a node
   pub rate-x-is : (i : ℕ) → i ≤ c .n → rateX c i ≡ xOf c i
   rate-x-is zero l = sym (source-rate c .0)
@@ -60,6 +83,31 @@ module _ (c : Chain) (a : Accepted c) where
   pub rate-y-is : (i : ℕ) → i ≤ c .n → rateY c i ≡ yOf c i
   rate-y-is zero l = sym (source-rate c .1)
   rate-y-is (suc j) l = y-is j l
+
+-- the largest multiple of g below τ, by remainders
+pub largest-multiple : (τ g r : ℕ) → Largest 0 τ g r → (g ∣ r) × ((m : ℕ) → g ∣ m → m < τ → m ≤ r)
+largest-multiple τ g r l = (dvd-of-mod-eq-zero g (l .rest ∙ zero-mod g), λ m d b. l .top m b (mod-eq-zero-of-dvd g d ∙ sym (zero-mod g)))
+
+-- two ways to say of a chain that it may run
+pub may-run-is : (c : Chain) → (Accepted c × ((j : ℕ) → j < c .n → Enough c j)) ↔ (Accepts c × ((j : ℕ) → j < c .n → Ample c j))
+may-run-is c = (
+  λ p. (accepts-is c .1 (p .0), λ j l. rw (minimum-is c (p .0) j l) (p .1 j l)),
+  λ p. let a : Accepted c = accepts-is c .0 (p .0) in (a, λ j l. rw (minimum-is c a j l) at (p .1 j l)),
+)
+
+-- N_j's index on the way down from N_(i+1) is that from N_i
+pub index-down : (c : Chain) (i k j : ℕ) → j ≤ i → index c (suc i) k j ≡ index c i (earlier (rowOf c i) k) j
+unfolding index
+index-down c i k j l = simp (lt-leb (suc i) j (omega arith))
+
+-- what an accepted firing of N_(j+1) takes from queue j
+pub taken : {c : Chain} {s : Run} {j : ℕ} → Whole s → Firing c s (suc j) → heldAt (fired c s (suc j)) j + cOf c j ≡ heldAt s j
+taken {c} {s} {j} w f = held-input c s j (omega (arith, w .held, f .chain .chain .count .1, f .may .node)) (over-enough (f .chain .chain) s j (f .may .node) (f .may .over))
+
+-- N_(i+1)'s count in an immediate run is what N_i's puts allow
+pub fed-by : (c : Chain) (k i : ℕ) → F c k (suc i) ≡ fires (τOf c i) (cOf c i) (pOf c i * F c k i)
+unfolding F
+fed-by c k i = ap (fires (τOf c i) (cOf c i)) (zero-add _)
 
 -- an order that fires each node only when the one that it feeds is below threshold, firing by firing
 prompt : (c : Chain) (s : Run) (h : List ℕ)

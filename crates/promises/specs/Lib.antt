@@ -1,5 +1,6 @@
 pub mod Replay
 pub mod Order
+pub mod Numbers
 pub mod Laws
 pub mod ByTicks
 pub mod Demand1

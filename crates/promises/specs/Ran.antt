@@ -15,7 +15,7 @@ use Rattle.ardenquill.specs.Ticks.{numberOf, valuesOf, kindOf, atOf, resting, d
 use Rattle.ardenquill.specs.Flat.{flat}
 use Rattle.ardenquill.specs.declared.OutcomeRun.{OutcomeRun}
 use Rattle.ardenquill.specs.Records.{Chain, Outcome, Clean, Overflowed, NoDeadline}
-use Rattle.promises.specs.Replay.{line, replayAnswer, Fires, Sometime}
+use Rattle.promises.specs.Replay.{pOf, cOf, line, replayAnswer, Fires, Sometime}
 use Rattle.promises.specs.ByTicks.{DeadlineRuns}
 use Rattle.promises.specs.Beyond.{firings, run-fires, run-state, run-counted, run-balance, run-naming, run-overflow}
 
@@ -25,7 +25,7 @@ pub record RanSo (c : Chain) (T : ℕ) (r : OutcomeRun) : Type 0 where
   pub fires : Fires c (firings c T)
   pub state : replayAnswer c (firings c T) .run ≡ resting (r .run)
   pub counted : (i : ℕ) → i ≤ c .n → countAt (r .run) i ≡ times i (firings c T)
-  pub balance : (j : ℕ) → j < c .n → start (rowOf c j) + rowOf c j .produce * countAt (r .run) j ≡ heldAt (r .run) j + rowOf c j .consume * countAt (r .run) (suc j)
+  pub balance : (j : ℕ) → j < c .n → start (rowOf c j) + pOf c j * countAt (r .run) j ≡ heldAt (r .run) j + cOf c j * countAt (r .run) (suc j)
   pub naming : (j : ℕ) → j < c .n → line c j .by ≤ countAt (r .run) j → Sometime c (firings c T) (λ s. line c j .minimum ≤ heldAt s j)
   pub overflow : r .kind ≡ 1 → r .at ≡ 0
 

@@ -1,5 +1,7 @@
 -- What the demands are said in: what the analysis reports, and manual firings from a fresh start, as their calls answer them (01, Firing).
 --   c, j, i, k               a chain, a queue (N_j feeds it and N_(j+1) empties it), a node, a number of source firings
+--   pOf c j, τOf c j, cOf c j
+--                            p, τ and c of queue j
 --   Accepts c                the analysis does not refuse c: 01's accepted chain; accepts-is: which is Accepted
 --   line c j                 what analyse answers of queue j: minimum is b, by the naming count, x and y its consumer's rate
 --   rateX c i, rateY c i     N_i's rate as it is reported; the source's is 1 in a period
@@ -39,6 +41,16 @@ use Rattle.ardenquill.specs.Records.{Chain, QueueSize, Run, RunAnswer}
 -- "a chain it doesn't refuse is accepted"
 abbrev pub Accepts : Chain → Type 0
 Accepts c = analyseAnswer c .number ≡ 0
+
+-- p, τ and c of queue j
+abbrev pub pOf : Chain → ℕ → ℕ
+pOf c j = rowOf c j .produce
+
+abbrev pub τOf : Chain → ℕ → ℕ
+τOf c j = rowOf c j .threshold
+
+abbrev pub cOf : Chain → ℕ → ℕ
+cOf c j = rowOf c j .consume
 
 -- queue j's line in analyse's own answer
 abbrev pub line : Chain → ℕ → QueueSize
@@ -82,7 +94,7 @@ Ample c i = (rowOf c i .capacity ≡ 0) ⊎ (line c i .minimum ≤ rowOf c i .ca
 
 -- the node that N_i feeds, if any, is below threshold
 abbrev pub LowAt : Chain → Run → ℕ → Type 0
-LowAt c s i = i < c .n → heldAt s i < rowOf c i .threshold
+LowAt c s i = i < c .n → heldAt s i < τOf c i
 
 -- no node but the source is over threshold
 abbrev pub Low : Chain → Run → Type 0

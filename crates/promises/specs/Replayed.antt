@@ -11,7 +11,7 @@ use Rattle.ardenquill.specs.Analyses.{start}
 use Rattle.ardenquill.specs.Runs.{countAt, heldAt, freshRun, fireAnswer}
 use Rattle.ardenquill.specs.Histories.{times, after, Permitted}
 use Rattle.ardenquill.specs.Records.{Chain, Run, RunAnswer}
-use Rattle.promises.specs.Replay.{Accepts, line, replayAnswer, Fires, Always, Sometime, Ample, LowAt, AtOnce, accepts-is, fires-is, fires-state}
+use Rattle.promises.specs.Replay.{pOf, cOf, Accepts, line, replayAnswer, Fires, Always, Sometime, Ample, LowAt, AtOnce, accepts-is, fires-is, fires-state}
 use Rattle.promises.specs.Demand3 as demand
 use Rattle.promises.specs.Beyond as beyond
 
@@ -23,7 +23,7 @@ pub record Kept (c : Chain) (h : List ℕ) (s : Run) : Type 0 where
   pub permitted : Permitted c (freshRun c) h
   pub state : s ≡ after c (freshRun c) h
   pub counted : (i : ℕ) → i ≤ c .n → countAt s i ≡ times i h
-  pub balance : (j : ℕ) → j < c .n → start (rowOf c j) + rowOf c j .produce * times j h ≡ heldAt s j + rowOf c j .consume * times (suc j) h
+  pub balance : (j : ℕ) → j < c .n → start (rowOf c j) + pOf c j * times j h ≡ heldAt s j + cOf c j * times (suc j) h
   pub naming : (j : ℕ) → j < c .n → line c j .by ≤ times j h → Sometime c h (λ t. line c j .minimum ≤ heldAt t j)
   pub peak : AtOnce c h → (j : ℕ) → j < c .n → Always c h (λ t. heldAt t j ≤ line c j .minimum)
   pub never-full : (i : ℕ) → Ample c i → LowAt c s i → fireAnswer c s i .number ≡ 12 → ⊥
