@@ -1,8 +1,8 @@
 -- What is shown beyond the demands, of what the public calls answer.
 --   c, h, j, i, k, T         a chain, a list of nodes fired in this order, a queue, a node, source firings, ticks (Demand3)
 --   feedWorking e B          Feed with the execution time e and the capacity B
---   load-below-one-overflows, full-queue-cured
---                            a chain whose load is below 1 and which overflows: P8 of the scope; and that it does not with a larger queue
+--   load-below-one-overflows, larger-clean
+--                            a chain whose load is below 1 and which overflows (P8 of the scope), and that with a larger queue it does not
 --   firings c T              the nodes that fired in the deadline run of T ticks, in order
 --   run-fires, run-state     manual firing accepts each of them, and after them counts and contents are the run's
 --   run-counted, run-balance, run-naming
@@ -42,17 +42,19 @@ use Rattle.promises.specs.Demand3.{nearest-at-once}
 abbrev pub feedWorking : ℕ → ℕ → Chain
 feedWorking e B = made 10 (queue 4 7 3 B ∷ []) (e ∷ [])
 
--- "taking load below 1 as proof that no queue overflows (P8)" is an error: the chain is accepted, with a load of 28 of 30, and its deadline run overflows at tick 40
-pub load-below-one-overflows :
-    ((analyseAnswer (feedWorking 7 0) .number ≡ 0) × ((analyseAnswer (feedWorking 7 0) .analysis .busy ≡ 28) × (analyseAnswer (feedWorking 7 0) .analysis .cycle ≡ 30)))
-    × ((deadlineRunAnswer (feedWorking 7 0) 41 .number ≡ 0) × (deadlineRunAnswer (feedWorking 7 0) 41 .outcome ≡ Overflowed 40 0))
+-- "Taking load below 1 as proof that no queue overflows (P8)" is an error: this chain is accepted, "load 28 of 30, yet overflow at tick 40, queue 0, with source 4,
+-- sink 3, held 7"
+pub load-below-one-overflows : let a = analyseAnswer (feedWorking 7 0) in
+    let r = deadlineRunAnswer (feedWorking 7 0) 41 in
+    ((a .number ≡ 0) × ((a .analysis .busy ≡ 28) × (a .analysis .cycle ≡ 30)))
+    × (((r .number ≡ 0) × ((numberOf (r .outcome) ≡ 0) × (valuesOf (r .outcome) ≡ 40 ∷ 0 ∷ []))) × ((countAt (r .run) 0 ≡ 4) × ((countAt (r .run) 1 ≡ 3) × (heldAt (r .run) 0 ≡ 7))))
 unfolding analyseAnswer deadlineRunAnswer
-load-below-one-overflows = ((refl, (refl, refl)), (refl, refl))
+load-below-one-overflows = ((refl, (refl, refl)), ((refl, (refl, refl)), (refl, (refl, refl))))
 
--- "with B=12 it is clean to tick 90"
-pub full-queue-cured : deadlineRunAnswer (feedWorking 7 12) 90 .outcome ≡ Clean
+-- "With B=12 it is clean to tick 90"
+pub larger-clean : deadlineRunAnswer (feedWorking 7 12) 90 .outcome ≡ Clean
 unfolding deadlineRunAnswer
-full-queue-cured = refl
+larger-clean = refl
 
 -- the nodes that fired in a deadline run, in order
 abbrev pub firings : Chain → ℕ → List ℕ

@@ -45,61 +45,63 @@ pub read-numbers : (f : List ℕ) → InOrder (1 ∷ 2 ∷ 3 ∷ 4 ∷ 5 ∷ [])
 unfolding readAnswer chains.answered readRefusal
 read-numbers f = in-order _ _ (numbers.read-numbered f) _ _ refl
 
--- a chain that is written
+-- "one of the listed refusal numbers with its place, in the listed order": a chain that is written
 pub write-numbers : (c : Chain) (o p : List ℕ) (a : LengthAnswer) → Output (writeRefusal c (length o)) (packed c) o p a → InOrder (2 ∷ 4 ∷ 5 ∷ 10 ∷ []) (writeChecks c (length o)) (a .number) (a .place)
 unfolding writeRefusal
 write-numbers c o p a w = in-order _ _ (numbers.write-numbered c (length o)) _ _ (ap (λ (x : LengthAnswer). refused (x .number) (x .place)) (w .answer))
 
--- a file that is reported on
+-- "one of the listed refusal numbers with its place, in the listed order": a file that is reported on
 pub report-numbers : (f o p : List ℕ) (a : LengthAnswer) → Output (reportRefusal f (length o)) (reportText f) o p a → InOrder (1 ∷ 2 ∷ 3 ∷ 4 ∷ 5 ∷ 6 ∷ 7 ∷ 10 ∷ []) (reportChecks f (length o)) (a .number) (a .place)
 unfolding reportRefusal
 report-numbers f o p a w = in-order _ _ (numbers.report-numbered f (length o)) _ _ (ap (λ (x : LengthAnswer). refused (x .number) (x .place)) (w .answer))
 
--- a number that the factory is asked
+-- "one of the listed refusal numbers with its place, in the listed order": a number that the factory is asked
 pub factory-numbers : (k : ℕ) → InOrder (14 ∷ []) (factoryCheck k ∷ []) (factoryAnswer k .number) (factoryAnswer k .place)
 unfolding factoryAnswer chains.answered factoryRefusal
 factory-numbers k = in-order _ _ (numbers.factory-numbered k) _ _ refl
 
--- a chain that is analysed, checked for a run, or started
 module _ (c : Chain) where
+  -- "one of the listed refusal numbers with its place, in the listed order": a chain that is analysed
   pub analyse-numbers : InOrder (2 ∷ 4 ∷ 5 ∷ 6 ∷ 7 ∷ []) (analyseChecks c) (analyseAnswer c .number) (analyseAnswer c .place)
   unfolding analyseAnswer sized analyseRefusal
   analyse-numbers = in-order _ _ (numbers.analyse-numbered c) _ _ refl
 
+  -- the same, where it is checked for a run
   pub checked-numbers : InOrder (2 ∷ 4 ∷ 5 ∷ 6 ∷ 7 ∷ 8 ∷ []) (runChecks c) (runAnswer c .number) (runAnswer c .place)
   unfolding runAnswer sized runRefusal
   checked-numbers = in-order _ _ (numbers.run-numbered c) _ _ refl
 
+  -- and where it is started
   pub fresh-numbers : InOrder (2 ∷ 4 ∷ 5 ∷ 6 ∷ 7 ∷ []) (analyseChecks c) (freshAnswer c .number) (freshAnswer c .place)
   unfolding freshAnswer runs.answered analyseRefusal
   fresh-numbers = in-order _ _ (numbers.analyse-numbered c) _ _ refl
 
-  -- a manual firing, 17 "tested after 8 and before 9"
+  -- "one of the listed refusal numbers with its place, in the listed order": a manual firing, 17 being "tested after 8 and before 9"
   pub fire-numbers : (s : Run) (i : ℕ) → InOrder (2 ∷ 4 ∷ 5 ∷ 6 ∷ 7 ∷ 17 ∷ 9 ∷ 11 ∷ 12 ∷ []) (fireChecks c s i) (fireAnswer c s i .number) (fireAnswer c s i .place)
   unfolding fireAnswer runs.answered fireRefusal
   fire-numbers s i = in-order _ _ (numbers.fire-numbered c s i) _ _ refl
 
-  -- an immediate run
+  -- "one of the listed refusal numbers with its place, in the listed order": an immediate run
   pub immediate-numbers : (k : ℕ) → InOrder (2 ∷ 4 ∷ 5 ∷ 6 ∷ 7 ∷ 8 ∷ 9 ∷ []) (immediateChecks c k) (immediateAnswer c k .number) (immediateAnswer c k .place)
   unfolding immediateAnswer runs.answered immediateRefusal
   immediate-numbers k = in-order _ _ (numbers.immediate-numbered c k) _ _ refl
 
-  -- a deadline question
+  -- "one of the listed refusal numbers with its place, in the listed order": a deadline question
   pub deadline-numbers : (i k : ℕ) → InOrder (2 ∷ 4 ∷ 5 ∷ 6 ∷ 7 ∷ 8 ∷ 11 ∷ 13 ∷ []) (deadlineChecks c i k) (deadlineAnswer c i k .number) (deadlineAnswer c i k .place)
   unfolding deadlineAnswer answeredDue deadlineRefusal
   deadline-numbers i k = in-order _ _ (numbers.deadline-numbered c i k) _ _ refl
 
-  -- a tick, 9 of the clock and then 9 of a count
+  -- "one of the listed refusal numbers with its place, in the listed order": a tick, 9 of the clock and then 9 of a count
   pub tick-numbers : (s : Run) → InOrder (2 ∷ 4 ∷ 5 ∷ 6 ∷ 7 ∷ 8 ∷ 17 ∷ 9 ∷ 9 ∷ []) (tickChecks c s) (tickAnswer c s .number) (tickAnswer c s .place)
   unfolding tickAnswer outcomeOf tickRefusal
   tick-numbers s = in-order _ _ (numbers.tick-numbered c s) _ _ refl
 
-  -- a deadline run
+  -- "one of the listed refusal numbers with its place, in the listed order": a deadline run
   pub deadline-run-numbers : (T : ℕ) → InOrder (2 ∷ 4 ∷ 5 ∷ 6 ∷ 7 ∷ 8 ∷ 9 ∷ []) (deadlineRunChecks c T) (deadlineRunAnswer c T .number) (deadlineRunAnswer c T .place)
   unfolding deadlineRunAnswer outcomeOf deadlineRunRefusal
   deadline-run-numbers T = in-order _ _ (numbers.deadline-run-numbered c T) _ _ refl
 
--- 01's "a refusal gives number and place, all other results zero"
+-- "Bad input gets one of the listed refusal numbers with its place", and nothing else: "A refusal gives number and place, all other results zero" (01)
 pub read-empty : (f : List ℕ) → readAnswer f .number ≢ 0 → readAnswer f .chain ≡ emptyChain
 unfolding readAnswer chains.answered
 read-empty f n = simp (ne-eqb _ _ n)
@@ -149,23 +151,26 @@ module _ (c : Chain) (s : Run) where
   unfolding tickAnswer outcomeOf
   tick-stays n = (simp (ne-eqb _ _ n), simp (ne-eqb _ _ n))
 
-  -- 01's "in every run state the slots past n are neither read nor changed": each firing and each tick leaves its own
+  -- 01's "In every run state the slots past n are neither read nor changed", not changed: each firing and each tick leaves its own
   pub fire-kept : (i : ℕ) → KeptPast (c .n) s (fireAnswer c s i .run)
   fire-kept = runs.past-kept c s
 
   pub tick-kept : KeptSlots (c .n) s (tickAnswer c s .run)
   tick-kept = ticks.past-kept c s
 
--- and chains and states that differ there only are answered alike
+-- and not read: chains and states that differ there only are answered alike
 module _ {c d : Chain} (a : AlikeChains c d) where
+  -- a chain
   pub chain-past : ((analyseAnswer c ≡ analyseAnswer d) × (freshAnswer c ≡ freshAnswer d))
       × (((k : ℕ) → immediateAnswer c k ≡ immediateAnswer d k) × (((i k : ℕ) → deadlineAnswer c i k ≡ deadlineAnswer d i k) × ((T : ℕ) → deadlineRunAnswer c T ≡ deadlineRunAnswer d T)))
   chain-past = ((analysis-alike a, fresh-alike a), (immediate-alike a, (question-alike a, deadline-run-alike a)))
 
   module _ {s t : Run} (r : AlikeRuns (c .n) s t) (w : Whole s) (v : Whole t) where
+    -- a state that is fired in
     pub fire-past : (i : ℕ) → (refused (fireAnswer c s i .number) (fireAnswer c s i .place) ≡ refused (fireAnswer d t i .number) (fireAnswer d t i .place)) × AlikeRuns (c .n) (fireAnswer c s i .run) (fireAnswer d t i .run)
     unfolding fireAnswer runs.answered
     fire-past i = (fire-alike a r i, runs.past-n a r w v i)
 
+    -- and one that is given a tick
     pub tick-past : AlikeAnswers (c .n) (tickAnswer c s) (tickAnswer d t)
     tick-past = ticks.past-n a r w v
