@@ -4,7 +4,7 @@ unfoldable pub use Rattle.words.specs.Table.{tab}
 pub use Rattle.words.specs.Table.{slots}
 pub use Rattle.words.specs.Rows.{none, row}
 pub use Rattle.chain.specs.Tests.{outside, Out, In}
-pub use Rattle.chain.specs.Refusals.{refused, fine, test, orElse, first, Silent, Silents, First, first-is, first-fine, first-silent, Only, only-test}
+pub use Rattle.chain.specs.Refusals.{refused, fine, test, orElse, first, Silent, Silents, First, first-is, first-fine, first-silent, Only, only-test, test-alone}
 unfoldable pub use Rattle.chain.specs.Refusals.{Numbered}
 pub use Rattle.chain.specs.Record.{rowOf, workOf, emptyChain, trimmed}
 unfoldable pub use Rattle.chain.specs.Record.{answered}

@@ -6,7 +6,7 @@
 --   c, s, i, k, T            a chain, a run state, a node, a number or an index, and ticks
 --   InOrder numbers checks N L
 --                            0 at place 0 where no check of the list speaks; else N at L is what the first that speaks says, with its number (Order)
---   read-, write-, report-, factory-, analyse-, checked-, fresh-, fire-, immediate-, deadline-, tick-, deadline-run-numbers
+--   read-, write-, report-, line-, factory-, analyse-, checked-, fresh-, fire-, immediate-, deadline-, tick-, deadline-run-numbers
 --                            the listed numbers of each call, in the order in which it tests them. When each is given exactly: read-1 to read-5, write-2 to
 --                            write-10, report-1 to report-10, factory-exact, analyse-2 to analyse-7, run-8, fire-17, fire-9, fire-11, fire-12,
 --                            immediate-9, deadline-11, deadline-13, tick-17, tick-9, deadline-run-9, and -earlier for what a call shares with the analysis
@@ -22,14 +22,16 @@ use mathlib.Core.Path.{_≡_, refl, ap, _∙_}
 use mathlib.Core.Logic.{_≢_}
 use mathlib.Core.List.{List, [], _∷_}
 use Prim.Native.Nat.{ℕ}
+use native.Mathlib.Omega.{arith}
+use lib.Dec.{ltb}
 use lib.ListN.{length}
 use borrow.Author.Tests.{ne-eqb}
 use Rattle.ardenquill.specs.Records.{Refusal, Chain, LengthAnswer, Run, Clean}
 use Rattle.ardenquill.specs.Chains as chains
-use Rattle.ardenquill.specs.Chains.{refused, emptyChain, factoryCheck, factoryRefusal, factoryAnswer}
-use Rattle.ardenquill.specs.Files.{readChecks, readRefusal, readAnswer, packed, writeChecks, writeRefusal, Output}
+use Rattle.ardenquill.specs.Chains.{refused, test-alone, emptyChain, factoryCheck, factoryRefusal, factoryAnswer}
+use Rattle.ardenquill.specs.Files.{readChecks, readRefusal, readAnswer, packed, roomCheck, writeChecks, writeRefusal, Output}
 use Rattle.ardenquill.specs.Analyses.{emptyAnalysis, sized, analyseChecks, analyseRefusal, analyseAnswer, runChecks, runRefusal, runAnswer}
-use Rattle.ardenquill.specs.Reports.{reportText, reportChecks, reportRefusal}
+use Rattle.ardenquill.specs.Reports.{refusalText, reportText, reportChecks, reportRefusal}
 use Rattle.ardenquill.specs.Runs as runs
 use Rattle.ardenquill.specs.Runs.{emptyRun, freshAnswer, fireChecks, fireRefusal, fireAnswer, fresh-refused, fire-refused, AlikeChains, AlikeRuns, Whole, KeptPast, analysis-alike, fresh-alike, fire-alike}
 use Rattle.ardenquill.specs.Immediate.{immediateChecks, immediateRefusal, immediateAnswer, immediate-refused, immediate-alike}
@@ -54,6 +56,11 @@ write-numbers c o p a w = in-order _ _ (numbers.write-numbered c (length o)) _ _
 pub report-numbers : (f o p : List ℕ) (a : LengthAnswer) → Output (reportRefusal f (length o)) (reportText f) o p a → InOrder (1 ∷ 2 ∷ 3 ∷ 4 ∷ 5 ∷ 6 ∷ 7 ∷ 10 ∷ []) (reportChecks f (length o)) (a .number) (a .place)
 unfolding reportRefusal
 report-numbers f o p a w = in-order _ _ (numbers.report-numbered f (length o)) _ _ (ap (λ (x : LengthAnswer). refused (x .number) (x .place)) (w .answer))
+
+-- "one of the listed refusal numbers with its place, in the listed order": the line of a refusal k at L, which 10 alone refuses
+pub line-numbers : (k L : ℕ) (o p : List ℕ) (a : LengthAnswer) → Output (roomCheck (length (refusalText k L)) (length o)) (refusalText k L) o p a
+    → InOrder (10 ∷ []) (roomCheck (length (refusalText k L)) (length o) ∷ []) (a .number) (a .place)
+line-numbers k L o p a w = in-order _ _ (numbers.room-numbered _ (length o)) _ _ (ap (λ (x : LengthAnswer). refused (x .number) (x .place)) (w .answer) ∙ test-alone 10 (length (refusalText k L)) (λ e. omega arith) (ltb (length o) (length (refusalText k L))))
 
 -- "one of the listed refusal numbers with its place, in the listed order": a number that the factory is asked
 pub factory-numbers : (k : ℕ) → InOrder (14 ∷ []) (factoryCheck k ∷ []) (factoryAnswer k .number) (factoryAnswer k .place)

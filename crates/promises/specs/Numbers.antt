@@ -2,7 +2,7 @@
 --   Numbered numbers checks  each check speaks with no number but its own (Chains)
 --   in-order                 what a list of numbered checks says first is in order
 --   joined                   numbered lists in a row
---   chain-, analyse-, run-, read-, write-, report-, factory-, fire-, immediate-, deadline-, tick-, deadline-run-numbered
+--   chain-, analyse-, run-, read-, write-, room-, report-, factory-, fire-, immediate-, deadline-, tick-, deadline-run-numbered
 --                            the checks of each call, with their numbers
 use mathlib.Core.Path.{_≡_, refl, sym, ap, _∙_}
 use mathlib.Core.Logic.{inl, inr, by-cases}
@@ -84,7 +84,7 @@ module _ (c : Chain) where
   unfolding Numbered
   run-numbered = joined (2 ∷ 4 ∷ 5 ∷ 6 ∷ 7 ∷ []) (8 ∷ []) (analyseChecks c) (capacityCheck c ∷ []) analyse-numbered (capacity-only c, tt)
 
--- of a file that is read, of a chain that is written, of a file that is reported on, and of a number that is asked of the factory
+-- of a file that is read, of a chain that is written, of room for a text, of a file that is reported on, and of a number that is asked of the factory
 pub read-numbered : (f : List ℕ) → Numbered (1 ∷ 2 ∷ 3 ∷ 4 ∷ 5 ∷ []) (readChecks f)
 unfolding Numbered
 read-numbered f = (files.length-only f, (chains.count-only (countOf f), (offset-only (length f) (countOf f) (queuesAt f) (nodesAt f), (range-only (chainOf f) (queuesAt f) (nodesAt f), (order-only (chainOf f) (queuesAt f), tt)))))
@@ -92,6 +92,10 @@ read-numbered f = (files.length-only f, (chains.count-only (countOf f), (offset-
 pub write-numbered : (c : Chain) (room : ℕ) → Numbered (2 ∷ 4 ∷ 5 ∷ 10 ∷ []) (writeChecks c room)
 unfolding Numbered
 write-numbered c room = joined (2 ∷ 4 ∷ 5 ∷ []) (10 ∷ []) (chainChecks c) (files.roomCheck (packedLength (c .n)) room ∷ []) (chain-numbered c) (files.room-only (packedLength (c .n)) room, tt)
+
+pub room-numbered : (need room : ℕ) → Numbered (10 ∷ []) (files.roomCheck need room ∷ [])
+unfolding Numbered
+room-numbered need room = (files.room-only need room, tt)
 
 pub report-numbered : (f : List ℕ) (room : ℕ) → Numbered (1 ∷ 2 ∷ 3 ∷ 4 ∷ 5 ∷ 6 ∷ 7 ∷ 10 ∷ []) (reportChecks f room)
 unfolding Numbered
