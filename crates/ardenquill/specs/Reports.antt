@@ -12,7 +12,7 @@ pub use Rattle.reporttext.specs.Refused.{longestRefusal, refusal-short}
 unfoldable pub use Rattle.reporttext.specs.Feeds.{feeds}
 pub use Rattle.reporttext.specs.Feeds.{Plain, OneLine, heading-one, queue-one, busy-one, report-feeds}
 pub use Rattle.reporttext.specs.Short.{longestLine, line-short, longestReport, report-short}
-pub use Rattle.report.specs.Checks.{reportText, reportChecks, report-1, report-2, report-3, report-4, report-5, report-6, report-7, report-10}
+pub use Rattle.report.specs.Checks.{reportText, reportChecks, report-1, report-2, report-3, report-4, report-5, report-6, report-7, report-10, reportNumbers, report-numbered}
 unfoldable pub use Rattle.report.specs.Checks.{reportRefusal, sizeRefusal}
 pub use Rattle.report.specs.Accepted.{report-accepts, report-written}
 pub use Rattle.report.specs.Room.{fileRefusal, report-room, report-roomy, refusal-room}

@@ -8,7 +8,8 @@
 --   First rs N L             the first check of the list that speaks says N at L
 --   Lowest g n N L           the first of g 0, .. g (n - 1) that speaks says N at L
 --   Only N r, Numbered Ns rs a check speaks with no number but N; each check of a list with none but its own
---   numbered-append          lists in a row
+--   numbered-append, -length, -own
+--                            lists in a row; a number for each check; and a check that speaks has its own
 --   absent, distinct         a number stands in no list; no number of a list is 0 or stands twice
 --   Others N Ns              N is none of the numbers, of which each is to be shown
 --   number-of, silent-as     equal refusals have equal numbers, and are silent together
@@ -278,12 +279,22 @@ distinct-at [] d k l = absurd (not-suc-le-zero l)
 distinct-at (N ∷ Ns) d zero l = λ e. unlike 0 N (both (not (eqb 0 N)) (absent N Ns) (both (absent N (0 ∷ Ns)) (distinct Ns) d .0) .0) (sym e)
 distinct-at (N ∷ Ns) d (suc k) l = distinct-at Ns (both (absent N (0 ∷ Ns)) (distinct Ns) d .1) k (omega arith)
 
-numbered-length : (Ns : List ℕ) (rs : List Refusal) → Numbered Ns rs → length Ns ≡ length rs
+-- there is a number for each check
+pub numbered-length : (Ns : List ℕ) (rs : List Refusal) → Numbered Ns rs → length Ns ≡ length rs
 unfolding Numbered
 numbered-length [] [] o = refl
 numbered-length [] (r ∷ rs) o = absurd o
 numbered-length (N ∷ Ns) [] o = absurd o
 numbered-length (N ∷ Ns) (r ∷ rs) o = ap suc (numbered-length Ns rs (o .1))
+
+-- a check that speaks has its own
+pub numbered-own : (Ns : List ℕ) (rs : List Refusal) → Numbered Ns rs → (k : ℕ) → k < length rs → (Silent (getD rs k fine) → ⊥) → getD rs k fine .number ≡ getD Ns k 0
+unfolding Numbered
+numbered-own [] [] o k l n = absurd (not-suc-le-zero l)
+numbered-own [] (r ∷ rs) o k l n = absurd o
+numbered-own (N ∷ Ns) [] o k l n = absurd o
+numbered-own (N ∷ Ns) (r ∷ rs) o zero l n = o .0 n
+numbered-own (N ∷ Ns) (r ∷ rs) o (suc k) l n = numbered-own Ns rs (o .1) k (omega arith) n
 
 -- a list that speaks does so with one of its numbers
 speaks-numbered : (N : ℕ) → N ≢ 0 → (Ns : List ℕ) (rs : List Refusal) → Numbered Ns rs → Others N Ns → first rs .number ≢ N

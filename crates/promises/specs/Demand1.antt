@@ -23,90 +23,89 @@ use mathlib.Core.Logic.{_≢_}
 use mathlib.Core.List.{List, [], _∷_}
 use Prim.Native.Nat.{ℕ}
 use native.Mathlib.Omega.{arith}
-use lib.Dec.{ltb}
+use lib.Dec.{ltb, leb}
 use lib.ListN.{length}
 use borrow.Author.Tests.{ne-eqb}
 use Rattle.ardenquill.specs.Records.{Refusal, Chain, LengthAnswer, Run, Clean}
 use Rattle.ardenquill.specs.Chains as chains
-use Rattle.ardenquill.specs.Chains.{refused, test-alone, emptyChain, factoryCheck, factoryRefusal, factoryAnswer}
-use Rattle.ardenquill.specs.Files.{readChecks, readRefusal, readAnswer, packed, roomCheck, writeChecks, writeRefusal, Output}
-use Rattle.ardenquill.specs.Analyses.{emptyAnalysis, sized, analyseChecks, analyseRefusal, analyseAnswer, runChecks, runRefusal, runAnswer}
-use Rattle.ardenquill.specs.Reports.{refusalText, reportText, reportChecks, reportRefusal}
+use Rattle.ardenquill.specs.Chains.{refused, Numbered, only-test, test-alone, emptyChain, factoryChains, factoryCheck, factoryRefusal, factoryAnswer}
+use Rattle.ardenquill.specs.Files.{readChecks, read-numbered, readRefusal, readAnswer, packed, roomCheck, room-only, writeChecks, write-numbered, writeRefusal, Output}
+use Rattle.ardenquill.specs.Analyses.{emptyAnalysis, sized, analyseChecks, analyse-numbered, analyseRefusal, analyseAnswer, runChecks, run-numbered, runRefusal, runAnswer}
+use Rattle.ardenquill.specs.Reports.{refusalText, reportText, reportChecks, report-numbered, reportRefusal}
 use Rattle.ardenquill.specs.Runs as runs
-use Rattle.ardenquill.specs.Runs.{emptyRun, freshAnswer, fireChecks, fireRefusal, fireAnswer, fresh-refused, fire-refused, AlikeChains, AlikeRuns, Whole, KeptPast, analysis-alike, fresh-alike, fire-alike}
-use Rattle.ardenquill.specs.Immediate.{immediateChecks, immediateRefusal, immediateAnswer, immediate-refused, immediate-alike}
-use Rattle.ardenquill.specs.Deadlines.{answeredDue, deadlineChecks, deadlineRefusal, deadlineAnswer, deadline-refused}
+use Rattle.ardenquill.specs.Runs.{emptyRun, freshAnswer, fireChecks, fire-numbered, fireRefusal, fireAnswer, fresh-refused, fire-refused, AlikeChains, AlikeRuns, Whole, KeptPast, analysis-alike, fresh-alike, fire-alike}
+use Rattle.ardenquill.specs.Immediate.{immediateChecks, immediate-numbered, immediateRefusal, immediateAnswer, immediate-refused, immediate-alike}
+use Rattle.ardenquill.specs.Deadlines.{answeredDue, deadlineChecks, deadline-numbered, deadlineRefusal, deadlineAnswer, deadline-refused}
 use Rattle.ardenquill.specs.Ticks as ticks
-use Rattle.ardenquill.specs.Ticks.{outcomeOf, tickChecks, tickRefusal, tickAnswer, deadlineRunChecks, deadlineRunRefusal, deadlineRunAnswer, KeptSlots, AlikeAnswers, question-alike, deadline-run-alike}
-use Rattle.promises.specs.Order.{InOrder}
-use Rattle.promises.specs.Numbers as numbers
-use Rattle.promises.specs.Numbers.{in-order}
+use Rattle.ardenquill.specs.Ticks.{outcomeOf, tickChecks, tick-numbered, tickRefusal, tickAnswer, deadlineRunChecks, deadline-run-numbered, deadlineRunRefusal, deadlineRunAnswer, KeptSlots, AlikeAnswers, question-alike, deadline-run-alike}
+use Rattle.promises.specs.Order.{InOrder, in-order}
 
 -- "Bad input gets one of the listed refusal numbers with its place, in the listed order": a file that is read
 pub read-numbers : (f : List ℕ) → InOrder (1 ∷ 2 ∷ 3 ∷ 4 ∷ 5 ∷ []) (readChecks f) (readAnswer f .number) (readAnswer f .place)
 unfolding readAnswer chains.answered readRefusal
-read-numbers f = in-order _ _ (numbers.read-numbered f) _ _ refl
+read-numbers f = in-order _ _ (read-numbered f) _ _ refl
 
 -- "one of the listed refusal numbers with its place, in the listed order": a chain that is written
 pub write-numbers : (c : Chain) (o p : List ℕ) (a : LengthAnswer) → Output (writeRefusal c (length o)) (packed c) o p a → InOrder (2 ∷ 4 ∷ 5 ∷ 10 ∷ []) (writeChecks c (length o)) (a .number) (a .place)
 unfolding writeRefusal
-write-numbers c o p a w = in-order _ _ (numbers.write-numbered c (length o)) _ _ (ap (λ (x : LengthAnswer). refused (x .number) (x .place)) (w .answer))
+write-numbers c o p a w = in-order _ _ (write-numbered c (length o)) _ _ (ap (λ (x : LengthAnswer). refused (x .number) (x .place)) (w .answer))
 
 -- "one of the listed refusal numbers with its place, in the listed order": a file that is reported on
 pub report-numbers : (f o p : List ℕ) (a : LengthAnswer) → Output (reportRefusal f (length o)) (reportText f) o p a → InOrder (1 ∷ 2 ∷ 3 ∷ 4 ∷ 5 ∷ 6 ∷ 7 ∷ 10 ∷ []) (reportChecks f (length o)) (a .number) (a .place)
 unfolding reportRefusal
-report-numbers f o p a w = in-order _ _ (numbers.report-numbered f (length o)) _ _ (ap (λ (x : LengthAnswer). refused (x .number) (x .place)) (w .answer))
+report-numbers f o p a w = in-order _ _ (report-numbered f (length o)) _ _ (ap (λ (x : LengthAnswer). refused (x .number) (x .place)) (w .answer))
 
 -- "one of the listed refusal numbers with its place, in the listed order": the line of a refusal k at L, which 10 alone refuses
 pub line-numbers : (k L : ℕ) (o p : List ℕ) (a : LengthAnswer) → Output (roomCheck (length (refusalText k L)) (length o)) (refusalText k L) o p a
     → InOrder (10 ∷ []) (roomCheck (length (refusalText k L)) (length o) ∷ []) (a .number) (a .place)
-line-numbers k L o p a w = in-order _ _ (numbers.room-numbered _ (length o)) _ _ (ap (λ (x : LengthAnswer). refused (x .number) (x .place)) (w .answer) ∙ test-alone 10 (length (refusalText k L)) (λ e. omega arith) (ltb (length o) (length (refusalText k L))))
+unfolding Numbered
+line-numbers k L o p a w = in-order _ _ (room-only _ (length o), tt) _ _ (ap (λ (x : LengthAnswer). refused (x .number) (x .place)) (w .answer) ∙ test-alone 10 (length (refusalText k L)) (λ e. omega arith) (ltb (length o) (length (refusalText k L))))
 
 -- "one of the listed refusal numbers with its place, in the listed order": a number that the factory is asked
 pub factory-numbers : (k : ℕ) → InOrder (14 ∷ []) (factoryCheck k ∷ []) (factoryAnswer k .number) (factoryAnswer k .place)
-unfolding factoryAnswer chains.answered factoryRefusal
-factory-numbers k = in-order _ _ (numbers.factory-numbered k) _ _ refl
+unfolding factoryAnswer chains.answered factoryRefusal Numbered
+factory-numbers k = in-order _ _ (only-test 14 k (leb (length factoryChains) k), tt) _ _ refl
 
 module _ (c : Chain) where
   -- "one of the listed refusal numbers with its place, in the listed order": a chain that is analysed
   pub analyse-numbers : InOrder (2 ∷ 4 ∷ 5 ∷ 6 ∷ 7 ∷ []) (analyseChecks c) (analyseAnswer c .number) (analyseAnswer c .place)
   unfolding analyseAnswer sized analyseRefusal
-  analyse-numbers = in-order _ _ (numbers.analyse-numbered c) _ _ refl
+  analyse-numbers = in-order _ _ (analyse-numbered c) _ _ refl
 
   -- the same, where it is checked for a run
   pub checked-numbers : InOrder (2 ∷ 4 ∷ 5 ∷ 6 ∷ 7 ∷ 8 ∷ []) (runChecks c) (runAnswer c .number) (runAnswer c .place)
   unfolding runAnswer sized runRefusal
-  checked-numbers = in-order _ _ (numbers.run-numbered c) _ _ refl
+  checked-numbers = in-order _ _ (run-numbered c) _ _ refl
 
   -- and where it is started
   pub fresh-numbers : InOrder (2 ∷ 4 ∷ 5 ∷ 6 ∷ 7 ∷ []) (analyseChecks c) (freshAnswer c .number) (freshAnswer c .place)
   unfolding freshAnswer runs.answered analyseRefusal
-  fresh-numbers = in-order _ _ (numbers.analyse-numbered c) _ _ refl
+  fresh-numbers = in-order _ _ (analyse-numbered c) _ _ refl
 
   -- "one of the listed refusal numbers with its place, in the listed order": a manual firing, 17 being "tested after 8 and before 9"
   pub fire-numbers : (s : Run) (i : ℕ) → InOrder (2 ∷ 4 ∷ 5 ∷ 6 ∷ 7 ∷ 17 ∷ 9 ∷ 11 ∷ 12 ∷ []) (fireChecks c s i) (fireAnswer c s i .number) (fireAnswer c s i .place)
   unfolding fireAnswer runs.answered fireRefusal
-  fire-numbers s i = in-order _ _ (numbers.fire-numbered c s i) _ _ refl
+  fire-numbers s i = in-order _ _ (fire-numbered c s i) _ _ refl
 
   -- "one of the listed refusal numbers with its place, in the listed order": an immediate run
   pub immediate-numbers : (k : ℕ) → InOrder (2 ∷ 4 ∷ 5 ∷ 6 ∷ 7 ∷ 8 ∷ 9 ∷ []) (immediateChecks c k) (immediateAnswer c k .number) (immediateAnswer c k .place)
   unfolding immediateAnswer runs.answered immediateRefusal
-  immediate-numbers k = in-order _ _ (numbers.immediate-numbered c k) _ _ refl
+  immediate-numbers k = in-order _ _ (immediate-numbered c k) _ _ refl
 
   -- "one of the listed refusal numbers with its place, in the listed order": a deadline question
   pub deadline-numbers : (i k : ℕ) → InOrder (2 ∷ 4 ∷ 5 ∷ 6 ∷ 7 ∷ 8 ∷ 11 ∷ 13 ∷ []) (deadlineChecks c i k) (deadlineAnswer c i k .number) (deadlineAnswer c i k .place)
   unfolding deadlineAnswer answeredDue deadlineRefusal
-  deadline-numbers i k = in-order _ _ (numbers.deadline-numbered c i k) _ _ refl
+  deadline-numbers i k = in-order _ _ (deadline-numbered c i k) _ _ refl
 
   -- "one of the listed refusal numbers with its place, in the listed order": a tick, 9 of the clock and then 9 of a count
   pub tick-numbers : (s : Run) → InOrder (2 ∷ 4 ∷ 5 ∷ 6 ∷ 7 ∷ 8 ∷ 17 ∷ 9 ∷ 9 ∷ []) (tickChecks c s) (tickAnswer c s .number) (tickAnswer c s .place)
   unfolding tickAnswer outcomeOf tickRefusal
-  tick-numbers s = in-order _ _ (numbers.tick-numbered c s) _ _ refl
+  tick-numbers s = in-order _ _ (tick-numbered c s) _ _ refl
 
   -- "one of the listed refusal numbers with its place, in the listed order": a deadline run
   pub deadline-run-numbers : (T : ℕ) → InOrder (2 ∷ 4 ∷ 5 ∷ 6 ∷ 7 ∷ 8 ∷ 9 ∷ []) (deadlineRunChecks c T) (deadlineRunAnswer c T .number) (deadlineRunAnswer c T .place)
   unfolding deadlineRunAnswer outcomeOf deadlineRunRefusal
-  deadline-run-numbers T = in-order _ _ (numbers.deadline-run-numbered c T) _ _ refl
+  deadline-run-numbers T = in-order _ _ (deadline-run-numbered c T) _ _ refl
 
 -- "Bad input gets one of the listed refusal numbers with its place", and nothing else: "A refusal gives number and place, all other results zero" (01)
 pub read-empty : (f : List ℕ) → readAnswer f .number ≢ 0 → readAnswer f .chain ≡ emptyChain

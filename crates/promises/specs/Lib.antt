@@ -1,6 +1,5 @@
 pub mod Replay
 pub mod Order
-pub mod Numbers
 pub mod Laws
 pub mod ByTicks
 pub mod Demand1
