@@ -4,7 +4,7 @@ unfoldable pub use Rattle.instants.specs.Steps.{goes, onward, sourced, lacking,
 pub use Rattle.instants.specs.Steps.{numberOf, valuesOf, kindOf, tickOf, atOf, kind-number, kind-values, clean, overflowed, undated, withClock, withDone, divides, next, lackingTest, asEarly, ended}
 unfoldable pub use Rattle.instants.specs.Checks.{spentCheck, tickRefusal, deadlineRunRefusal, outcomeOf, tickAnswer, deadlineRunAnswer}
 pub use Rattle.instants.specs.Checks.{longest, clockCheck, spentTest, tickChecks, lengthCheck, deadlineRunChecks}
-pub use Rattle.instants.specs.Refusals.{clock-exact, clock-silent, clock-only, FirstSpent, LateOrSpent, spent-exact, spent-silent, spent-only, length-exact, length-silent, length-only, tick-parts, tick-17, tick-9, tick-earlier, tick-accepts, Ticking, ticking-is, deadline-run-parts, deadline-run-9, deadline-run-earlier, deadline-run-accepts, ranAs, refusedAs, tick-ran, tick-refused, deadline-run-ran, deadline-run-refused, tickNumbers, tick-numbered, deadlineRunNumbers, deadline-run-numbered}
+pub use Rattle.instants.specs.Refusals.{clock-exact, clock-silent, clock-only, FirstSpent, LateOrSpent, spent-exact, spent-silent, spent-only, length-exact, length-silent, length-only, tick-parts, tick-17, tick-9, tick-earlier, tickNumbers, tick-numbered, tick-accepts, Ticking, ticking-is, deadline-run-parts, deadline-run-9, deadline-run-earlier, deadlineRunNumbers, deadline-run-numbered, deadline-run-accepts, ranAs, refusedAs, tick-ran, tick-refused, deadline-run-ran, deadline-run-refused}
 pub use Rattle.instants.specs.Runs.{onward-clean, onward-none, onward-then, instants-ticks, ticks-more}
 pub use Rattle.instants.specs.Kept.{Running, TickStep, Countable, tick-step, begun-stays}
 pub use Rattle.instants.specs.Lacking.{FirstLacking, lacking-exact, lacking-silent}

@@ -13,7 +13,8 @@
 --   read-, factory-, analyse-, checked-, fresh-, immediate-, deadline-, deadline-run-empty
 --                            what a refused call makes itself is zero
 --   writes-nothing           a refused call leaves every lent byte
---   fire-stays, tick-stays   and gives back the run state that it was handed
+--   fire-stays, tick-stays, lent-stays
+--                            and gives back the run state that it was handed, or leaves it where it was lent
 --   AlikeChains c d, AlikeRuns n s t
 --                            chains, and states, that differ in slots past n only (Runs)
 --   chain-past, fire-past, tick-past, fire-kept, tick-kept
@@ -36,6 +37,8 @@ use Rattle.ardenquill.specs.Runs as runs
 use Rattle.ardenquill.specs.Runs.{emptyRun, freshAnswer, fireChecks, fire-numbered, fireRefusal, fireAnswer, fresh-refused, fire-refused, AlikeChains, AlikeRuns, Whole, KeptPast, analysis-alike, fresh-alike, fire-alike}
 use Rattle.ardenquill.specs.Immediate.{immediateChecks, immediate-numbered, immediateRefusal, immediateAnswer, immediate-refused, immediate-alike}
 use Rattle.ardenquill.specs.Deadlines.{answeredDue, deadlineChecks, deadline-numbered, deadlineRefusal, deadlineAnswer, deadline-refused}
+use Rattle.ardenquill.specs.Flat.{coded}
+use Rattle.ardenquill.specs.declared.OutcomeAnswer.{OutcomeAnswer}
 use Rattle.ardenquill.specs.Ticks as ticks
 use Rattle.ardenquill.specs.Ticks.{outcomeOf, tickChecks, tick-numbered, tickRefusal, tickAnswer, deadlineRunChecks, deadline-run-numbered, deadlineRunRefusal, deadlineRunAnswer, KeptSlots, AlikeAnswers, question-alike, deadline-run-alike}
 use Rattle.promises.specs.Order.{InOrder, in-order}
@@ -156,6 +159,10 @@ module _ (c : Chain) (s : Run) where
   pub tick-stays : tickAnswer c s .number ≢ 0 → (tickAnswer c s .outcome ≡ Clean) × (tickAnswer c s .run ≡ s)
   unfolding tickAnswer outcomeOf
   tick-stays n = (simp (ne-eqb _ _ n), simp (ne-eqb _ _ n))
+
+  -- and so does the one that a controller lends to a tick: t is what it has become, and r the answer for C
+  pub lent-stays : (t : Run) (r : OutcomeAnswer) → (t ≡ tickAnswer c s .run) × (r ≡ coded (tickAnswer c s)) → r .number ≢ 0 → t ≡ s
+  lent-stays t r said n = said .0 ∙ tick-stays (λ z. n (ap (λ (x : OutcomeAnswer). x .number) (said .1) ∙ z)) .1
 
   -- 01's "In every run state the slots past n are neither read nor changed", not changed: each firing and each tick leaves its own
   pub fire-kept : (i : ℕ) → KeptPast (c .n) s (fireAnswer c s i .run)

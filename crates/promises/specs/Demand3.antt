@@ -4,9 +4,8 @@
 --                            and then replayAnswer c h .run is the state (Replay)
 --   start q, times i h       what a queue starts with, 0; how often N_i stands in h
 --   line c j                 what analyse answers of queue j: minimum is b, by the naming count, x and y its consumer's rate
---   Always, Sometime, AtOnce, NearestFirst, Ample, Runs
---                            at every moment, at some moment; each node at once, the one nearest the sink first; a capacity that is not below the minimum; an
---                            immediate run that is not refused (Replay)
+--   Always, Sometime, AtOnce, NearestFirst, Runs
+--                            at every moment, at some moment; each node at once, the one nearest the sink first; an immediate run that is not refused (Replay)
 --   schedule c k             the firings of the immediate run of k source firings, in order: manual firing accepts them, they are by the rule, and they
 --                            lead to its state (Demand2: immediate-fires, -rule, -state)
 --   counted, balance         "each queue holds what its producer's firings put in less what its consumer's took out"
