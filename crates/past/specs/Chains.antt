@@ -3,7 +3,9 @@
 --   AlikeChains c d          two chains that differ in slots past n only
 --   alike-refl               a chain and itself
 --   trimmed-alike            a chain and the one with its slots past n zero
---   chain-alike              such chains are refused alike as records
+--   flat-alike               lists in a row that are equal one by one
+--   record-alike, chain-alike
+--                            such chains are tested and refused alike as records
 --   rates-alike, cycle-alike, busy-alike
 --                            they have the same rates, cycle and load
 --   sizes-alike              and the same analysis
@@ -58,7 +60,7 @@ tabs-alike : {A : Type 0} {n m : ℕ} (f g : ℕ → A) → n ≡ m → ((i : �
 tabs-alike {n = n} f g e h = tab-alike n f g h ∙ ap (λ (k : ℕ). tab k g) e
 
 -- and so are lists of them in a row
-flat-alike : {A : Type 0} (f g : ℕ → List A) (n : ℕ) → ((i : ℕ) → i < n → f i ≡ g i) → flat f n ≡ flat g n
+pub flat-alike : {A : Type 0} (f g : ℕ → List A) (n : ℕ) → ((i : ℕ) → i < n → f i ≡ g i) → flat f n ≡ flat g n
 unfolding flat
 flat-alike f g zero h = refl
 flat-alike f g (suc n) h = ap₂ _++_ (flat-alike f g n (λ i l. h i (omega arith))) (h n (omega arith))
@@ -88,7 +90,7 @@ module _ {c d : Chain} (a : AlikeChains c d) where
   order-alike = ap first (tabs-alike _ _ (a .n) (λ i l. ap (λ (r : Queue). overdrawn r (20 + 20 * i)) (a .rows i l)))
 
   -- what a record is tested for
-  record-alike : chainChecks c ≡ chainChecks d
+  pub record-alike : chainChecks c ≡ chainChecks d
   record-alike = λ k. countCheck (a .n k) ∷ range-alike k ∷ order-alike k ∷ []
 
   -- a record is refused alike

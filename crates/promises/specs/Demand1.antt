@@ -17,7 +17,7 @@
 --                            and gives back the run state that it was handed, or leaves it where it was lent
 --   AlikeChains c d, AlikeRuns n s t
 --                            chains, and states, that differ in slots past n only (Runs)
---   chain-past, fire-past, tick-past, fire-kept, tick-kept
+--   chain-past, write-past, fire-past, tick-past, fire-kept, tick-kept
 --                            slots past n are neither read nor changed
 use mathlib.Core.Path.{_≡_, refl, ap, _∙_}
 use mathlib.Core.Logic.{_≢_}
@@ -42,6 +42,7 @@ use Rattle.ardenquill.specs.declared.OutcomeAnswer.{OutcomeAnswer}
 use Rattle.ardenquill.specs.Ticks as ticks
 use Rattle.ardenquill.specs.Ticks.{outcomeOf, tickChecks, tick-numbered, tickRefusal, tickAnswer, deadlineRunChecks, deadline-run-numbered, deadlineRunRefusal, deadlineRunAnswer, KeptSlots, AlikeAnswers, question-alike, deadline-run-alike}
 use Rattle.promises.specs.Order.{InOrder, in-order}
+use Rattle.promises.specs.Laws.{write-alike}
 
 -- "Bad input gets one of the listed refusal numbers with its place, in the listed order": a file that is read
 pub read-numbers : (f : List ℕ) → InOrder (1 ∷ 2 ∷ 3 ∷ 4 ∷ 5 ∷ []) (readChecks f) (readAnswer f .number) (readAnswer f .place)
@@ -177,6 +178,10 @@ module _ {c d : Chain} (a : AlikeChains c d) where
   pub chain-past : ((analyseAnswer c ≡ analyseAnswer d) × (freshAnswer c ≡ freshAnswer d))
       × (((k : ℕ) → immediateAnswer c k ≡ immediateAnswer d k) × (((i k : ℕ) → deadlineAnswer c i k ≡ deadlineAnswer d i k) × ((T : ℕ) → deadlineRunAnswer c T ≡ deadlineRunAnswer d T)))
   chain-past = ((analysis-alike a, fresh-alike a), (immediate-alike a, (question-alike a, deadline-run-alike a)))
+
+  -- and so they are written, whatever the room
+  pub write-past : (room : ℕ) → (writeRefusal c room ≡ writeRefusal d room) × (packed c ≡ packed d)
+  write-past = write-alike a
 
   module _ {s t : Run} (r : AlikeRuns (c .n) s t) (w : Whole s) (v : Whole t) where
     -- a state that is fired in

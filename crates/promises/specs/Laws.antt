@@ -13,6 +13,7 @@
 --                            of a permitted order: its chain, its firings, its state, the state at each moment, and that it is prompt
 --   quiet, parts, sound, ends-in, keeps
 --                            of an immediate run: its checks, what they leave to be known, and its state
+--   write-alike              chains that differ in slots past n only are written alike
 --   Each, Firings            something holds at each moment of a list, or of each of its firings, one by one
 use mathlib.Core.Path.{_≡_, refl, sym, ap, subst, _∙_}
 use mathlib.Core.Logic.{_↔_}
@@ -22,15 +23,16 @@ use native.Mathlib.Nat.{zero-add, zero-mod, mod-eq-zero-of-dvd, dvd-of-mod-eq-ze
 use native.Mathlib.Omega.{arith}
 use lib.ListN.{getD}
 use borrow.Author.Tests.{lt-leb}
-use Rattle.ardenquill.specs.Chains.{rowOf, Sound}
+use Rattle.ardenquill.specs.Chains.{row, rowOf, first, Sound}
+use Rattle.ardenquill.specs.Files.{bytesOf, packedLength, header, rows, nodes, packed, roomCheck, writeRefusal}
 use Rattle.ardenquill.specs.Analyses as sizes
 use Rattle.ardenquill.specs.Analyses.{gcd, gcd-pos-left, residue, Largest, residue-largest, xOf, yOf, source-rate, minimumOf, namingOf, capacityOf, sizeBy, sizeOf, noSize, size-at, analysisOf, analyseAnswer, Accepted, analysed, Enough}
-use Rattle.ardenquill.specs.Runs.{heldAt, freshRun, answered, fired, Whole, Firing, held-input, over-enough}
+use Rattle.ardenquill.specs.Runs.{heldAt, freshRun, answered, fired, Whole, Firing, held-input, over-enough, AlikeChains, flat-alike, record-alike}
 use Rattle.ardenquill.specs.Histories.{after, Permitted, Prompt}
 use Rattle.ardenquill.specs.Immediate as immediate
 use Rattle.ardenquill.specs.Immediate.{F, fires, Reached, schedule, Next, Follows, most, immediateRefusal, immediateAnswer, immediate-accepts, immediate-ran}
 use Rattle.ardenquill.specs.Deadlines.{earlier, index}
-use Rattle.ardenquill.specs.Records.{Chain, QueueSize, Analysis, AnalysisAnswer, Run}
+use Rattle.ardenquill.specs.Records.{Queue, Chain, QueueSize, Analysis, AnalysisAnswer, Run}
 use Rattle.promises.specs.Replay.{pOf, τOf, cOf, Accepts, Ample, line, rateX, rateY, replayAnswer, Fires, LowAt, AtOnce, Runs, accepts-is, fires-is, fires-state, fires-before}
 
 -- the line of a queue of an accepted chain
@@ -166,6 +168,21 @@ module _ (c : Chain) (k : ℕ) (ran : Runs c k) where
   -- which keeps what firings keep
   pub keeps : Reached c (immediateAnswer c k .run)
   keeps = rw ends-in (immediate.reached sound k)
+
+-- chains that differ in slots past n only are written alike
+module _ {c d : Chain} (a : AlikeChains c d) where
+  rows-alike : rows c (c .n) ≡ rows d (d .n)
+  rows-alike = flat-alike _ _ (c .n) (λ i l. ap (λ (q : Queue). row q) (a .rows i l)) ∙ ap (rows d) (a .n)
+
+  nodes-alike : nodes c (c .n) ≡ nodes d (d .n)
+  nodes-alike = flat-alike _ _ (c .n) (λ i l. ap (λ (e : ℕ). e ∷ []) (a .work i l)) ∙ ap (nodes d) (a .n)
+
+  pub write-alike : (room : ℕ) → (writeRefusal c room ≡ writeRefusal d room) × (packed c ≡ packed d)
+  unfolding writeRefusal packed
+  write-alike room = (
+    λ k. first (record-alike a k ++ (roomCheck (packedLength (a .n k)) room ∷ [])),
+    λ k. bytesOf (header (a .n k) (a .period k) ++ (rows-alike k ++ nodes-alike k)),
+  )
 
 -- P holds at each moment of a list, of what it begins with
 unfoldable pub Each : (List ℕ → Type 0) → List ℕ → Type 0
