@@ -5,8 +5,8 @@ pub use Rattle.events.specs.Counts.{fires-below, fires-from, fires-reach, fires
 pub use Rattle.schedule.specs.Counts.{fed, fed-mono, F-mono, F-feeds, turnsOf, turns-source, turns-next, rates, rate}
 unfoldable pub use Rattle.schedule.specs.Counts.{F}
 pub use Rattle.schedule.specs.Reached.{Reached, reached-fresh, reached-fired, reached-along, reached-after, Calm, fresh-calm, calm-counts, counts, same-counts, one-state, below-minimum}
-unfoldable pub use Rattle.schedule.specs.Schedule.{joined, burst, schedule, Follows}
-pub use Rattle.schedule.specs.Schedule.{burst-exact, schedule-none, schedule-more, Next, next-one, HasNext, next-some, follows-append, follows-alike, follows-prompt, rule, ends, source, reached, counts-are-F, unique, Tight, fresh-tight, tight-fired, next-firing, follows-permitted, permitted, any-order}
+unfoldable pub use Rattle.schedule.specs.Schedule.{joined, burst, schedule}
+pub use Rattle.schedule.specs.Schedule.{burst-exact, schedule-none, schedule-more, Next, next-one, HasNext, next-some, Follows, follows-alike, follows-prompt, rule, ends, source, reached, counts-are-F, unique, Tight, fresh-tight, tight-fired, next-firing, follows-permitted, permitted, any-order}
 pub use Rattle.immediate.specs.Checks.{most, lengthTest, immediateChecks, FirstTooLong, length-exact, length-silent, length-only, immediate-parts, immediate-9, immediate-earlier, immediateNumbers, immediate-numbered, immediate-accepts, immediate-ran, immediate-refused}
 unfoldable pub use Rattle.immediate.specs.Checks.{lengthCheck, immediateRefusal, immediateAnswer}
 pub use Rattle.immediate.specs.Past.{F-alike, length-alike, refusal-alike, reached-alike, calm-alike, state-alike, immediate-alike}

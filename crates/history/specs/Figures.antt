@@ -16,7 +16,7 @@ use Rattle.sizing.specs.Sizes.{minimumOf}
 use Rattle.state.specs.State.{heldAt, freshRun}
 use Rattle.state.specs.Fired.{fired}
 use Rattle.state.specs.Fire.{fireRefusal}
-use Rattle.history.specs.History.{after, Permitted, Prompt}
+use Rattle.history.specs.History.{after, Permitted, Prompt, EachFiring}
 
 -- the factory chain 0
 abbrev pub feed : Chain
@@ -37,11 +37,11 @@ feed-top = (refl, refl)
 
 -- manual firing accepts each firing of the run
 pub feed-permitted : Permitted feed (freshRun feed) feed-history
-unfolding factoryAnswer freshRun fired fireRefusal Permitted
+unfolding factoryAnswer freshRun fired fireRefusal EachFiring
 feed-permitted = (refl, (refl, (refl, (refl, (refl, (refl, (refl, (refl, tt))))))))
 
 -- and each node of it fires only when the node that it feeds is below threshold
 pub feed-prompt : Prompt feed (freshRun feed) feed-history
-unfolding factoryAnswer freshRun fired Prompt
+unfolding factoryAnswer freshRun fired EachFiring
 feed-prompt =
     (λ l. omega arith, (λ l. omega arith, (λ l. omega arith, (λ l. omega arith, (λ l. omega arith, (λ l. omega arith, (λ l. omega arith, (λ l. omega arith, tt))))))))

@@ -1,16 +1,16 @@
 -- A history: the nodes that fired, in order (01, Firing, and demand 3).
 --   times i h                how often N_i stands in h
 --   after c s h              the state that the firings h lead to from s
+--   EachFiring c P s h       P holds of each firing of h and of the state that it is made in
 --   Permitted c s h          a permitted order: manual firing accepts each of its firings in turn
 --   Prompt c s h             no node fires while the node that it feeds is over threshold
 --   AtSome h P               P holds of what h begins with up to some moment
 --   at-some                  and so does what follows from it
 --   HasHeld c h j b, HeldExactly c h j b
 --                            from a fresh start, queue j has held at least b, and exactly b, at some moment of h
---   after-append, permitted-append, prompt-append
+--   after-append, each-append
 --                            histories one after the other
---   permitted-before, prompt-before
---                            what a history begins with
+--   each-before              what a history begins with
 use mathlib.Core.Path.{_≡_, refl}
 use mathlib.Core.Bool.{cond}
 use mathlib.Core.List.{List, [], _∷_, _++_}
@@ -34,15 +34,18 @@ unfoldable pub after : Chain → Run → List ℕ → Run
 after c s [] = s
 after c s (i ∷ h) = after c (fired c s i) h
 
+-- P holds of each firing of h and of the state that it is made in, from s on
+unfoldable pub EachFiring : Chain → (Run → ℕ → Type 0) → Run → List ℕ → Type 0
+EachFiring c P s [] = Unit
+EachFiring c P s (i ∷ h) = P s i × EachFiring c P (fired c s i) h
+
 -- "a permitted order is one in which every firing was accepted"
-unfoldable pub Permitted : Chain → Run → List ℕ → Type 0
-Permitted c s [] = Unit
-Permitted c s (i ∷ h) = Silent (fireRefusal c s i) × Permitted c (fired c s i) h
+abbrev pub Permitted : Chain → Run → List ℕ → Type 0
+Permitted c = EachFiring c (λ s i. Silent (fireRefusal c s i))
 
 -- each node fires only when the node that it feeds, if any, is below threshold
-unfoldable pub Prompt : Chain → Run → List ℕ → Type 0
-Prompt c s [] = Unit
-Prompt c s (i ∷ h) = (i < c .n → heldAt s i < rowOf c i .threshold) × Prompt c (fired c s i) h
+abbrev pub Prompt : Chain → Run → List ℕ → Type 0
+Prompt c = EachFiring c (λ s i. i < c .n → heldAt s i < rowOf c i .threshold)
 
 -- at some moment of h, which is the end of what h begins with, P holds of that beginning
 pub record AtSome (h : List ℕ) (P : List ℕ → Type 0) : Type 0 where
@@ -70,26 +73,14 @@ module _ (c : Chain) where
   after-append s [] h = refl
   after-append s (i ∷ g) h = after-append (fired c s i) g h
 
-  -- a permitted order that goes on with one is one
-  pub permitted-append : (s : Run) (g h : List ℕ) → Permitted c s g → Permitted c (after c s g) h → Permitted c s (g ++ h)
-  unfolding after Permitted
-  permitted-append s [] h a b = b
-  permitted-append s (i ∷ g) h a b = (a .0, permitted-append (fired c s i) g h (a .1) b)
+  -- what holds of each firing of one history and then of another holds of each firing of both
+  pub each-append : (P : Run → ℕ → Type 0) (s : Run) (g h : List ℕ) → EachFiring c P s g → EachFiring c P (after c s g) h → EachFiring c P s (g ++ h)
+  unfolding after EachFiring
+  each-append P s [] h a b = b
+  each-append P s (i ∷ g) h a b = (a .0, each-append P (fired c s i) g h (a .1) b)
 
-  -- what a permitted order begins with is one
-  pub permitted-before : (s : Run) (g h : List ℕ) → Permitted c s (g ++ h) → Permitted c s g
-  unfolding Permitted
-  permitted-before s [] h a = tt
-  permitted-before s (i ∷ g) h a = (a .0, permitted-before (fired c s i) g h (a .1))
-
-  -- and so of a prompt one
-  pub prompt-append : (s : Run) (g h : List ℕ) → Prompt c s g → Prompt c (after c s g) h → Prompt c s (g ++ h)
-  unfolding after Prompt
-  prompt-append s [] h a b = b
-  prompt-append s (i ∷ g) h a b = (a .0, prompt-append (fired c s i) g h (a .1) b)
-
-  -- and of what it begins with
-  pub prompt-before : (s : Run) (g h : List ℕ) → Prompt c s (g ++ h) → Prompt c s g
-  unfolding Prompt
-  prompt-before s [] h a = tt
-  prompt-before s (i ∷ g) h a = (a .0, prompt-before (fired c s i) g h (a .1))
+  -- and of each firing of what a history begins with
+  pub each-before : (P : Run → ℕ → Type 0) (s : Run) (g h : List ℕ) → EachFiring c P s (g ++ h) → EachFiring c P s g
+  unfolding EachFiring
+  each-before P s [] h a = tt
+  each-before P s (i ∷ g) h a = (a .0, each-before P (fired c s i) g h (a .1))

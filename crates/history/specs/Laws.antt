@@ -28,7 +28,7 @@ use Rattle.events.specs.Events as one
 use Rattle.events.specs.Events.{contents, Allowed, Settled, Holds}
 use Rattle.events.specs.Peak.{peak-law}
 use Rattle.events.specs.Naming.{naming-law}
-use Rattle.history.specs.History.{times, after, Permitted, Prompt, at-some, HasHeld, HeldExactly, permitted-before, prompt-before}
+use Rattle.history.specs.History.{times, after, Permitted, Prompt, at-some, HasHeld, HeldExactly, each-before}
 use Rattle.history.specs.Queues.{events, times-again, times-other, puts-times, takes-times, Cut, cut, held-contents, queue-allowed, queue-settled}
 
 -- a fresh start has a count for each node and a slot for each queue
@@ -72,11 +72,11 @@ module _ (c : Chain) (a : Accepted c) (j : ℕ) (l : j < c .n) (h : List ℕ) (o
 module _ (c : Chain) {h : List ℕ} (g k : List ℕ) (e : h ≡ g ++ k) where
   -- a beginning of a permitted history is permitted
   permitted-start : Permitted c (freshRun c) h → Permitted c (freshRun c) g
-  permitted-start ok = permitted-before c (freshRun c) g k (subst (Permitted c (freshRun c)) e ok)
+  permitted-start ok = each-before c _ (freshRun c) g k (subst (Permitted c (freshRun c)) e ok)
 
   -- and one of a prompt history is prompt
   prompt-start : Prompt c (freshRun c) h → Prompt c (freshRun c) g
-  prompt-start low = prompt-before c (freshRun c) g k (subst (Prompt c (freshRun c)) e low)
+  prompt-start low = each-before c _ (freshRun c) g k (subst (Prompt c (freshRun c)) e low)
 
 module _ (c : Chain) (a : Accepted c) (h : List ℕ) (ok : Permitted c (freshRun c) h) where
   -- "each queue holds what its producer's firings put in less what its consumer's took out", as a sum

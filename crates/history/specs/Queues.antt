@@ -28,7 +28,7 @@ use Rattle.state.specs.Fired.{fired, Over, over-enough, Slots, slots-kept, held
 use Rattle.state.specs.Fire.{fireRefusal, fire-accepts}
 use Rattle.state.specs.declared.Run.{Run}
 use Rattle.events.specs.Events.{Event, put, take, puts, takes, contents, contents-after, Allowed, Settled}
-use Rattle.history.specs.History.{times, after, Permitted, Prompt}
+use Rattle.history.specs.History.{times, after, Permitted, Prompt, EachFiring}
 
 -- a firing of N_q puts into queue q, one of N_(q+1) takes from it, and no other touches it
 unfoldable pub seen : ℕ → ℕ → List Event
@@ -166,7 +166,7 @@ module _ (c : Chain) (q : ℕ) (inside : q < c .n) where
   -- the queue holds what its events leave in it
   pub held-contents : (s : Run) (h : List ℕ) → Slots (c .n) s → Permitted c s h
       → heldAt (after c s h) q ≡ contents (rowOf c q .produce) (rowOf c q .consume) (heldAt s q) (events q h)
-  unfolding after Permitted events contents
+  unfolding after EachFiring events contents
   held-contents s [] k ok = refl
   held-contents s (i ∷ h) k ok =
       held-contents (fired c s i) h (slots-kept c s i k) (ok .1)
@@ -176,7 +176,7 @@ module _ (c : Chain) (q : ℕ) (inside : q < c .n) where
   -- each of its takes finds τ
   pub queue-allowed : (s : Run) (h : List ℕ) → Slots (c .n) s → Permitted c s h
       → Allowed (rowOf c q .produce) (rowOf c q .threshold) (rowOf c q .consume) (heldAt s q) (events q h)
-  unfolding Permitted events Allowed
+  unfolding EachFiring events Allowed
   queue-allowed s [] k ok = tt
   queue-allowed s (i ∷ h) k ok =
       allowed-append _ _ _ (heldAt s q) (seen q i) (events q h) (fired-allowed s i (ok .0))
@@ -186,7 +186,7 @@ module _ (c : Chain) (q : ℕ) (inside : q < c .n) where
   -- and in a prompt history each of its puts finds less
   pub queue-settled : (s : Run) (h : List ℕ) → Slots (c .n) s → Permitted c s h → Prompt c s h
       → Settled (rowOf c q .produce) (rowOf c q .threshold) (rowOf c q .consume) (heldAt s q) (events q h)
-  unfolding Permitted Prompt events Settled
+  unfolding EachFiring events Settled
   queue-settled s [] k ok low = tt
   queue-settled s (i ∷ h) k ok low =
       settled-append _ _ _ (heldAt s q) (seen q i) (events q h) (fired-settled s i (low .0))

@@ -28,7 +28,7 @@ use Rattle.ardenquill.specs.Files.{bytesOf, packedLength, header, rows, nodes, 
 use Rattle.ardenquill.specs.Analyses as sizes
 use Rattle.ardenquill.specs.Analyses.{gcd, gcd-pos-left, residue, Largest, residue-largest, xOf, yOf, source-rate, minimumOf, namingOf, capacityOf, sizeBy, sizeOf, noSize, size-at, analysisOf, analyseAnswer, Accepted, analysed, Enough}
 use Rattle.ardenquill.specs.Runs.{heldAt, freshRun, answered, fired, Whole, Firing, held-input, over-enough, AlikeChains, flat-alike, record-alike}
-use Rattle.ardenquill.specs.Histories.{after, Permitted, Prompt}
+use Rattle.ardenquill.specs.Histories.{after, Permitted, Prompt, EachFiring}
 use Rattle.ardenquill.specs.Immediate as immediate
 use Rattle.ardenquill.specs.Immediate.{F, fires, Reached, schedule, Next, Follows, most, immediateRefusal, immediateAnswer, immediate-accepts, immediate-ran}
 use Rattle.ardenquill.specs.Deadlines.{earlier, index}
@@ -114,13 +114,13 @@ fed-by c k i = ap (fires (τOf c i) (cOf c i)) (zero-add _)
 -- an order that fires each node only when the one that it feeds is below threshold, firing by firing
 prompt : (c : Chain) (s : Run) (h : List ℕ)
     → ((before later : List ℕ) (i : ℕ) → h ≡ before ++ (i ∷ later) → LowAt c (after c s before) i) → Prompt c s h
-unfolding Prompt after
+unfolding EachFiring after
 prompt c s [] low = tt
 prompt c s (i ∷ h) low = (low [] h i refl, prompt c (fired c s i) h (λ g k m e. low (i ∷ g) k m (ap (λ (t : List ℕ). i ∷ t) e)))
 
 -- a firing of an order by the rule
 pub follows-at : (c : Chain) (s : Run) (g : List ℕ) (i : ℕ) (k : List ℕ) → Follows c s (g ++ (i ∷ k)) → Next c (after c s g) i
-unfolding Follows after
+unfolding EachFiring after
 follows-at c s [] i k p = p .0
 follows-at c s (m ∷ g) i k p = follows-at c (fired c s m) g i k (p .1)
 

@@ -34,7 +34,7 @@ use borrow.Author.Tests.{eq-eqb, ne-eqb}
 use Rattle.ardenquill.specs.Chains.{rowOf}
 use Rattle.ardenquill.specs.Analyses.{noSize, analyseAnswer, Accepted, analyse-accepts}
 use Rattle.ardenquill.specs.Runs.{heldAt, freshRun, answered, freshAnswer, fresh-state, fired, fireAnswer, fire-accepted}
-use Rattle.ardenquill.specs.Histories.{AtSome, after, Permitted, permitted-before}
+use Rattle.ardenquill.specs.Histories.{AtSome, after, Permitted, EachFiring, each-before}
 use Rattle.ardenquill.specs.Immediate.{Next, immediateAnswer}
 use Rattle.ardenquill.specs.Records.{Chain, QueueSize, Run, RunAnswer}
 
@@ -137,7 +137,7 @@ module _ (c : Chain) where
 
   -- firings of which none is refused went so
   went : (r : RunAnswer) (h : List ℕ) → replayFrom c r h .number ≡ 0 → Went r h
-  unfolding replayFrom Permitted after fireAnswer answered
+  unfolding replayFrom EachFiring after fireAnswer answered
   went r [] z = record { began = z; permitted = tt; state = refl }
   went r (i ∷ h) z = by-cases (ℕ-discrete (r .number) 0)
       (λ y.
@@ -152,7 +152,7 @@ module _ (c : Chain) where
 
   -- and firings that manual firing permits are not refused
   goes : (r : RunAnswer) (h : List ℕ) → r .number ≡ 0 → Permitted c (r .run) h → replayFrom c r h .number ≡ 0
-  unfolding replayFrom Permitted fireAnswer answered
+  unfolding replayFrom EachFiring fireAnswer answered
   goes r [] z ok = z
   goes r (i ∷ h) z ok =
       ap (λ (a : RunAnswer). a .number) (goes-on r i h z)
@@ -173,4 +173,4 @@ module _ (c : Chain) where
 
   -- what a permitted order begins with is one
   pub fires-before : (g h : List ℕ) → Fires c (g ++ h) → Fires c g
-  fires-before g h z = let a = fires-is (g ++ h) .0 z in fires-is g .1 (a .0, permitted-before c (freshRun c) g h (a .1))
+  fires-before g h z = let a = fires-is (g ++ h) .0 z in fires-is g .1 (a .0, each-before c _ (freshRun c) g h (a .1))

@@ -35,7 +35,7 @@ use Rattle.state.specs.State.{countAt, heldAt, doneAt, freshRun, zeros, fresh-c
 use Rattle.state.specs.Fired.{fired, Over, over-enough, Balance, Slots, counts-length, holds-length, count-fired, count-other, held-sink, balance-kept}
 use Rattle.state.specs.Fire.{fire-accepts}
 use Rattle.state.specs.declared.Run.{Run}
-use Rattle.history.specs.History.{after, Permitted}
+use Rattle.history.specs.History.{after, Permitted, EachFiring}
 use Rattle.schedule.specs.Counts.{fed, F}
 
 -- a state that firings lead to: "clock and work done stay 0", the slots past n are as a fresh start has them, each queue has its balance,
@@ -125,7 +125,7 @@ module _ {c : Chain} {s : Run} (k : Sound c) (r : Reached c s) where
 
 -- each firing of a permitted order is of a node that may fire
 pub reached-along : {c : Chain} {s : Run} → Sound c → (h : List ℕ) → Reached c s → Permitted c s h → Reached c (after c s h)
-unfolding after Permitted
+unfolding after EachFiring
 reached-along k [] r p = r
 reached-along {c} {s} k (i ∷ h) r p =
     let may = fire-accepts c s i .0 (p .0) .1 .1 in

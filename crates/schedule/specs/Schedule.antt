@@ -7,7 +7,7 @@
 --   Next c s i               01's rule: N_i is the node nearest the sink that may fire
 --   next-one, HasNext, next-some
 --                            there is exactly one such node in every state
---   Follows c s h            each firing of h, from s on, is by the rule; follows-append: histories one after the other
+--   Follows c s h            each firing of h, from s on, is by the rule
 --   Ran c s i M h            what firings h by the rule leave of N_i and the nodes after it
 --   Bursts c i f, burst-runs each burst of N_i takes its count from N to N + 1 and settles the queues after it
 --   rule, ends, source, reached, counts-are-F
@@ -40,7 +40,7 @@ use Rattle.state.specs.State.{countAt, heldAt, freshRun, fresh-count, fresh-hel
 use Rattle.state.specs.Fired.{fired, Over, over-enough, counts-length, count-fired, count-other, held-output, held-input, held-other}
 use Rattle.state.specs.Fire.{Firing, firing-is}
 use Rattle.state.specs.declared.Run.{Run}
-use Rattle.history.specs.History.{times, after, Permitted, Prompt, after-append}
+use Rattle.history.specs.History.{times, after, Permitted, Prompt, after-append, EachFiring, each-append}
 use Rattle.history.specs.Queues.{times-again, times-other}
 use Rattle.history.specs.Laws.{counted-from}
 use Rattle.schedule.specs.Counts.{fed, F, fed-mono}
@@ -121,19 +121,12 @@ pub next-some : (c : Chain) (s : Run) → HasNext c s
 next-some c s = next-from c s (c .n) (le-refl (c .n)) (λ j a b. absurd (omega arith))
 
 -- a history by the rule
-unfoldable pub Follows : Chain → Run → List ℕ → Type 0
-Follows c s [] = Unit
-Follows c s (i ∷ h) = Next c s i × Follows c (fired c s i) h
-
--- histories by the rule, one after the other
-pub follows-append : (c : Chain) (s : Run) (g h : List ℕ) → Follows c s g → Follows c (after c s g) h → Follows c s (g ++ h)
-unfolding after Follows
-follows-append c s [] h a b = b
-follows-append c s (i ∷ g) h a b = (a .0, follows-append c (fired c s i) g h (a .1) b)
+abbrev pub Follows : Chain → Run → List ℕ → Type 0
+Follows c = EachFiring c (Next c)
 
 -- by the rule no node fires while the node that it feeds is over threshold
 pub follows-prompt : (c : Chain) (s : Run) (h : List ℕ) → Follows c s h → Prompt c s h
-unfolding Follows Prompt
+unfolding EachFiring
 follows-prompt c s [] f = tt
 follows-prompt c s (i ∷ h) f = (f .0 .nearest i (le-refl i), follows-prompt c (fired c s i) h (f .1))
 
@@ -149,7 +142,7 @@ pub record Ran (c : Chain) (s : Run) (i M : ℕ) (h : List ℕ) : Type 0 where
 -- one such run after another
 ran-more : (c : Chain) (s : Run) (i N M : ℕ) (g h : List ℕ) → Ran c s i N g → Ran c (after c s g) i M h → Ran c s i M (g ++ h)
 ran-more c s i N M g h a b = record {
-  follows = follows-append c s g h (a .follows) (b .follows);
+  follows = each-append c (Next c) s g h (a .follows) (b .follows);
   reached = rw (after-append c s g h) (b .reached);
   calm = rw (after-append c s g h) (b .calm);
   same = rw (after-append c s g h) (λ j l. b .same j l ∙ a .same j l);
@@ -167,7 +160,7 @@ Ready c s i M = (t : Run) → Reached c t → ((j : ℕ) → j < i → countAt t
 -- M - N such runs, one after the other
 joined-runs : (c : Chain) (i : ℕ) (f : ℕ → List ℕ) → Bursts c i f → (r N M : ℕ) → N + r ≡ M → (s : Run) → countAt s i ≡ N → Reached c s → Calm c s i
     → Ready c s i M → Ran c s i M (joined f r N)
-unfolding joined after Follows
+unfolding joined after EachFiring
 joined-runs c i f bursts zero N M e s at reached calm ready = record { follows = tt; reached = reached; calm = calm; same = λ j l. refl; ends = omega (arith, at, e) }
 joined-runs c i f bursts (suc r) N M e s at reached calm ready =
     let one : Ran c s i (suc N) (f N) = bursts s N at reached calm (ready s reached (λ j l. refl) (omega (arith, at, e))) in
@@ -197,7 +190,7 @@ module _ (c : Chain) (k : Sound c) where
 
   -- a burst is such a run: by what is left towards the sink
   pub burst-runs : (m i : ℕ) → i + m ≡ c .n → Bursts c i (burst c m i)
-  unfolding burst after Follows
+  unfolding burst after EachFiring
   burst-runs zero i e s N at reached calm over = record {
     follows = (record { node = omega arith; over = over; nearest = calm }, tt);
     reached = reached-fired k reached i (omega arith) over;
@@ -262,7 +255,7 @@ times-rest i j g h same e = by-cases (ℕ-discrete i 0)
 
 -- from one state, the rule leads in one way to the next state in which no node but the source is over threshold, and the next
 pub follows-alike : (c : Chain) (s : Run) (g h : List ℕ) → Follows c s g → Follows c s h → Calm c (after c s g) 0 → Calm c (after c s h) 0 → times 0 g ≡ times 0 h → g ≡ h
-unfolding after Follows times
+unfolding after EachFiring times
 follows-alike c s [] [] a b u v e = refl
 follows-alike c s [] (j ∷ h) a b u v e = absurd (omega (arith, goes-on c s j h u (b .0), e))
 follows-alike c s (i ∷ g) [] a b u v e = absurd (omega (arith, goes-on c s i g v (a .0), e))
@@ -313,7 +306,7 @@ next-firing {c} {s} {i} a enough r tight next grows =
 -- and each firing of a history by the rule, the counts at its end being words
 pub follows-permitted : {c : Chain} → Accepted c → ((i : ℕ) → i < c .n → Enough c i) → (s : Run) (h : List ℕ) → Reached c s → Tight c s
     → ((j : ℕ) → j ≤ c .n → countAt (after c s h) j ≤ limit) → Follows c s h → Permitted c s h
-unfolding after Permitted Follows
+unfolding after EachFiring
 follows-permitted a enough s [] r tight most f = tt
 follows-permitted {c} a enough s (i ∷ h) r tight most f =
     let k : Sound c = a .chain in

@@ -23,7 +23,7 @@ use Rattle.state.specs.Fired.{fired, Over, May, Balance}
 use Rattle.state.specs.Checks.{cramped, StateSound}
 use Rattle.state.specs.Fire.{firing-is}
 use Rattle.state.specs.declared.Run.{Run}
-use Rattle.history.specs.History.{times, after, Permitted, HasHeld, after-append, permitted-append}
+use Rattle.history.specs.History.{times, after, Permitted, HasHeld, after-append, EachFiring, each-append}
 use Rattle.history.specs.Laws.{counted, balance, naming}
 use Rattle.instants.specs.Checks.{longest}
 use Rattle.instants.specs.Steps.{clean, overflowed, undated, onward, goes, withDone, divides, sourced, lacking, begun, chosen, worked, endedIn, ended, finish, finished, advanced, tick, ticks, instants}
@@ -46,19 +46,19 @@ resting-may (suc j) m = record { node = m .node; countable = m .countable; over 
 module _ (c : Chain) (s : Run) where
   -- no firing, between states with the same counts and contents
   replays-none : (t : Run) → s .counts ≡ t .counts → s .held ≡ t .held → Replays c s [] t
-  unfolding Permitted after
+  unfolding EachFiring after
   replays-none t a h = (tt, λ i. record { clock = 0; counts = a i; held = h i; done = replicate 16 0 })
 
   -- one firing, which may be
   replays-one : Running c s → (t i : ℕ) → May c s i → Replays c s ((t, i) ∷ []) (fired c s i)
-  unfolding Permitted after fired
+  unfolding EachFiring after fired
   replays-one r t i m = ((firing-is c (resting s) i .1 (record { chain = r .chain; state = resting-sound r; may = resting-may i m }), tt), refl)
 
   -- one trace and then another
   replays-then : (t u : Run) (g h : List Entry) → Replays c s g t → Replays c t h u → Replays c s (g ++ h) u
   replays-then t u g h a b =
       subst (λ (x : List ℕ). Permitted c (resting s) x × (after c (resting s) x ≡ resting u)) (sym (map-append (λ (e : Entry). e .1) g h)) (
-        permitted-append c (resting s) (nodes g) (nodes h) (a .0) (subst (λ (x : Run). Permitted c x (nodes h)) (sym (a .1)) (b .0)),
+        each-append c _ (resting s) (nodes g) (nodes h) (a .0) (subst (λ (x : Run). Permitted c x (nodes h)) (sym (a .1)) (b .0)),
         after-append c (resting s) (nodes g) (nodes h) ∙ ap (λ (x : Run). after c x (nodes h)) (a .1) ∙ b .1,
       )
 
