@@ -1,4 +1,4 @@
-//! Links target/staticlib/libardenquill.a and libtickcall.a of the project.
+//! Links target/staticlib/libardenquill.a of the project.
 
 use std::path::PathBuf;
 use std::{env, process};
@@ -7,14 +7,12 @@ fn main() {
     let package =
         PathBuf::from(env::var_os("CARGO_MANIFEST_DIR").expect("cargo sets CARGO_MANIFEST_DIR"));
     let folder = package.join("../target/staticlib");
-    println!("cargo:rustc-link-search=native={}", folder.display());
-    for name in ["ardenquill", "tickcall"] {
-        let archive = folder.join(format!("lib{name}.a"));
-        println!("cargo:rerun-if-changed={}", archive.display());
-        if !archive.is_file() {
-            eprintln!("there is no {}: build it first", archive.display());
-            process::exit(1);
-        }
-        println!("cargo:rustc-link-lib=static={name}");
+    let archive = folder.join("libardenquill.a");
+    println!("cargo:rerun-if-changed={}", archive.display());
+    if !archive.is_file() {
+        eprintln!("there is no {}: build it first", archive.display());
+        process::exit(1);
     }
+    println!("cargo:rustc-link-search=native={}", folder.display());
+    println!("cargo:rustc-link-lib=static=ardenquill");
 }

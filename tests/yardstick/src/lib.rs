@@ -26,4 +26,6 @@ pub use file::{read, write, ChainAnswer, LengthAnswer, MAX_FILE};
 pub use immediate::{immediate, MAX_FIRINGS};
 pub use report::report;
 pub use run::{fire, fresh, Run, RunAnswer};
-pub use tick::{tick, OutcomeRun, CLEAN, MAX_TICKS, NO_DEADLINE, OVERFLOWED};
+pub use tick::{
+    tick, tick_lent, OutcomeAnswer, OutcomeRun, CLEAN, MAX_TICKS, NO_DEADLINE, OVERFLOWED,
+};

@@ -26,6 +26,17 @@ pub struct OutcomeRun {
     pub run: Run,
 }
 
+/// An outcome, or the number and place of a refusal.
+#[repr(C)]
+#[derive(Clone, Copy, Debug, Default, PartialEq, Eq)]
+pub struct OutcomeAnswer {
+    pub number: u32,
+    pub place: u32,
+    pub kind: u32,
+    pub tick: u32,
+    pub at: u32,
+}
+
 /// How a tick or a run ended: clean, or at a tick with the queue that would have overflowed or the
 /// node whose deadline can't be had.
 #[derive(Clone, Copy, Default)]
@@ -61,15 +72,38 @@ impl OutcomeRun {
 
 /// The outcome of one tick and the state after it, after checks 2, 4, 5, 6, 7, 8, 17 and 9.
 pub fn tick(chain: &Chain, mut run: Run) -> OutcomeRun {
-    match checked_tick(chain, &run) {
-        Ok(analysis) => {
-            let source_fires = run.clock.is_multiple_of(chain.period);
-            let due = |node, fired| due(chain, &analysis, node, fired).ok();
-            let stepped = step(chain, &analysis, &mut run, source_fires, due);
-            OutcomeRun::ended(stepped.err().unwrap_or_default(), run)
-        }
+    match ticked(chain, &mut run) {
+        Ok(outcome) => OutcomeRun::ended(outcome, run),
         Err(refusal) => OutcomeRun::refused(refusal, run),
     }
+}
+
+/// The outcome of one tick that is made of the state lent, after the same checks.
+pub fn tick_lent(chain: &Chain, run: &mut Run) -> OutcomeAnswer {
+    match ticked(chain, run) {
+        Ok(Outcome { kind, tick, at }) => OutcomeAnswer {
+            number: 0,
+            place: 0,
+            kind,
+            tick,
+            at,
+        },
+        Err(Refusal { number, place }) => OutcomeAnswer {
+            number,
+            place,
+            ..OutcomeAnswer::default()
+        },
+    }
+}
+
+/// The checks in order, then one tick of a state.
+#[inline(always)]
+fn ticked(chain: &Chain, run: &mut Run) -> Result<Outcome, Refusal> {
+    let analysis = checked_tick(chain, run)?;
+    let source_fires = run.clock.is_multiple_of(chain.period);
+    let due = |node, fired| due(chain, &analysis, node, fired).ok();
+    let stepped = step(chain, &analysis, run, source_fires, due);
+    Ok(stepped.err().unwrap_or_default())
 }
 
 /// All checks of a tick in order. The answer is the analysis.
