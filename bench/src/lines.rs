@@ -51,20 +51,48 @@ pub struct Line {
 
 /// The table, in the header's order of calls.
 pub fn lines() -> Vec<Line> {
+    let most = MAX_QUEUES;
     let calls = [
         read_lines(),
         write_lines(),
         factory_lines(),
-        analyse_lines(),
+        short_lines("analyse", &[1, 4, most], accepted_chains, |calls, chain| {
+            calls.analyse(chain)
+        }),
         report_lines(),
-        fresh_lines(),
-        fire_lines(),
+        short_lines("fresh", &[1, most], accepted_chains, |calls, chain| {
+            calls.fresh(chain)
+        }),
+        short_lines("fire", &[1, most], firings, |calls, (chain, run, node)| {
+            calls.fire(chain, run, *node)
+        }),
         immediate_lines(),
-        deadline_lines(),
-        tick_lines(),
+        short_lines(
+            "deadline",
+            &[1, most],
+            questions,
+            |calls, (chain, index)| calls.deadline(chain, chain.n, *index),
+        ),
+        short_lines("tick", &[1, 2, most], ticks, |calls, (chain, run)| {
+            calls.tick(chain, run)
+        }),
         deadline_run_lines(),
     ];
     calls.into_iter().flatten().collect()
+}
+
+/// The lines of a call of less than microseconds on inputs of so many queues each.
+fn short_lines<I: 'static, A: Answer>(
+    call: &'static str,
+    sizes: &[usize],
+    inputs: fn(&mut Random, usize) -> Vec<I>,
+    made: impl Fn(&Calls, &I) -> A + Copy + 'static,
+) -> Vec<Line> {
+    let line = |&n| {
+        let inputs = move |random: &mut Random| inputs(random, n);
+        line(call, format!("n = {n}"), SHORT, 0, inputs, made)
+    };
+    sizes.iter().map(line).collect()
 }
 
 /// The line of a call on some inputs, which are answered with a number.
@@ -182,17 +210,6 @@ fn factory_lines() -> Vec<Line> {
     vec![line("factory", input, SHORT, 0, numbers, factory)]
 }
 
-/// Analysing chains.
-fn analyse_lines() -> Vec<Line> {
-    let line = |n| {
-        let chains = move |random: &mut Random| accepted_chains(random, n);
-        line("analyse", of(n), SHORT, 0, chains, |calls, chain| {
-            calls.analyse(chain)
-        })
-    };
-    [1, 4, MAX_QUEUES].map(line).into()
-}
-
 /// Reporting on files.
 fn report_lines() -> Vec<Line> {
     vec![
@@ -221,33 +238,6 @@ fn report_line(input: &str, n: usize, room: fn(&[u8]) -> usize) -> Line {
     line("report", input.into(), SHORT, 0, files, report)
 }
 
-/// Making fresh starts.
-fn fresh_lines() -> Vec<Line> {
-    let line = |n| {
-        let chains = move |random: &mut Random| accepted_chains(random, n);
-        line("fresh", of(n), SHORT, 0, chains, |calls, chain| {
-            calls.fresh(chain)
-        })
-    };
-    [1, MAX_QUEUES].map(line).into()
-}
-
-/// Firing nodes by hand.
-fn fire_lines() -> Vec<Line> {
-    let line = |n| {
-        let firings = move |random: &mut Random| firings(random, n);
-        line(
-            "fire",
-            of(n),
-            SHORT,
-            0,
-            firings,
-            |calls, (chain, run, node)| calls.fire(chain, run, *node),
-        )
-    };
-    [1, MAX_QUEUES].map(line).into()
-}
-
 /// Making immediate runs.
 fn immediate_lines() -> Vec<Line> {
     let line = |n| {
@@ -258,33 +248,6 @@ fn immediate_lines() -> Vec<Line> {
         })
     };
     [1, MAX_QUEUES].map(line).into()
-}
-
-/// Asking for deadlines of the sink.
-fn deadline_lines() -> Vec<Line> {
-    let line = |n| {
-        let questions = move |random: &mut Random| questions(random, n);
-        line(
-            "deadline",
-            of(n),
-            SHORT,
-            0,
-            questions,
-            |calls, (chain, index)| calls.deadline(chain, chain.n, *index),
-        )
-    };
-    [1, MAX_QUEUES].map(line).into()
-}
-
-/// Making single ticks.
-fn tick_lines() -> Vec<Line> {
-    let line = |n| {
-        let ticks = move |random: &mut Random| ticks(random, n);
-        line("tick", of(n), SHORT, 0, ticks, |calls, (chain, run)| {
-            calls.tick(chain, run)
-        })
-    };
-    [1, 2, MAX_QUEUES].map(line).into()
 }
 
 /// Making deadline runs in which the source fires every n ticks, or a hundred times as seldom.
@@ -298,9 +261,4 @@ fn deadline_run_lines() -> Vec<Line> {
     };
     let dense = [2, MAX_QUEUES].map(|n| [(n, "dense", 1), (n, "sparse", 100)]);
     dense.into_iter().flatten().map(line).collect()
-}
-
-/// The name of inputs of n queues.
-fn of(n: usize) -> String {
-    format!("n = {n}")
 }
