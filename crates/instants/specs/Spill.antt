@@ -4,6 +4,7 @@
 --   room-after-choice          so the node that works has room for what it produces
 --   finish-fits                and what a tick of work finishes is clean
 --   finish-never-spills        an overflow of a tick is the source's, at the tick's own clock
+--   ended-stays, outcome-stays an overflow and 13 leave the state as it was, of a tick and of its answer
 --   ticks-never-spill          the same of any number of ticks
 --   run-never-spills           and of a deadline run from a fresh start
 use mathlib.Core.Path.{_≡_, refl, sym, ap, subst, _∙_}
@@ -29,14 +30,18 @@ use Rattle.state.specs.State.{countAt, heldAt, doneAt, freshRun}
 use Rattle.state.specs.Fired.{Over, Room, Balance}
 use Rattle.state.specs.Checks.{over-true, cramped, StateSound, room-silent}
 use Rattle.state.specs.declared.Run.{Run}
+use Rattle.past.specs.Runs.{Whole}
 use Rattle.deadlines.specs.Deadline.{earlier, deadline, deadline-mono}
 use Rattle.instants.specs.Best.{chosen-best}
+use Rattle.instants.specs.Checks.{outcomeOf, tickAnswer}
 use Rattle.instants.specs.Fresh.{fresh-running, run-is-ticks}
-use Rattle.instants.specs.Kept.{unclean-overflow, source-cases, finish-cases, Running, sourced-clean, begun-clean, chosen-low, worked-held, works-on, works-ends, tick-begun, tick-step}
+use Rattle.instants.specs.Kept.{unclean-overflow, unclean-undated, begun-stays, source-cases, finish-cases, Running, sourced-clean, begun-clean, chosen-low, worked-held, works-on, works-ends, tick-begun, tick-step}
+use Rattle.instants.specs.Refusals.{Ticking, ticking-is, ranAs, tick-ran}
 use Rattle.instants.specs.Steps.{kindOf, tickOf, atOf, next, clean, undated, goes, onward, sourced, lacking, chosen, worked, finish, finished, begun, tick, ticks, instants}
 use Rattle.instants.specs.declared.Outcome.{Outcome}
 use Rattle.instants.specs.declared.Outcome.the-variants.{Clean, Overflowed, NoDeadline}
 use Rattle.instants.specs.declared.Ticked.{Ticked}
+use Rattle.instants.specs.declared.TickAnswer.{TickAnswer}
 
 -- where production j, with m consumptions done, would pass the capacity, the consumer's next firing is due by it
 pub due-by : (q : Queue) (j m : ℕ) → 0 < q .produce → capacityOf q + q .consume * m < q .produce * j → earlier q (suc m) ≤ j
@@ -137,6 +142,28 @@ module _ {c : Chain} (enough : (j : ℕ) → j < c .n → Enough c j) where
       absurd (unclean-overflow (sym f ∙ fits)))
       (ap (λ (x : Ticked). x .outcome) (sym (tick-begun c s)) ∙ e)
 
+  -- so an outcome that ends a tick leaves the state as it was
+  pub ended-stays : {s : Run} → Running c s → (tick c s .outcome ≡ Clean → ⊥) → tick c s .run ≡ s
+  unfolding onward
+  ended-stays {s} r n = by (begun c s .outcome) refl
+    where
+      rest : Run → Ticked
+      rest u = finished c (worked u (chosen c u))
+
+      ends : (o : Outcome) → begun c s .outcome ≡ o → tick c s ≡ goes o (begun c s .run) rest
+      ends o e = tick-begun c s ∙ ap (λ (p : Outcome). goes p (begun c s .run) rest) e
+
+      clean-after : begun c s .outcome ≡ Clean → tick c s .outcome ≡ Clean
+      clean-after z =
+          let b = begun-clean c s z in
+          let is : begun c s .run ≡ sourced c s .run = ap (λ (x : Ticked). x .run) (b .1 .1) in
+          ap (λ (x : Ticked). x .outcome) (ends Clean z) ∙ subst (λ (u : Run). rest u .outcome ≡ Clean) (sym is) (finish-fits (sourced-clean r (b .0) .running) enough)
+
+      by : (o : Outcome) → begun c s .outcome ≡ o → tick c s .run ≡ s
+      by Clean z = absurd (n (clean-after z))
+      by (Overflowed t q) e = ap (λ (x : Ticked). x .run) (ends (Overflowed t q) e) ∙ begun-stays c s (λ z. unclean-overflow (sym e ∙ z))
+      by (NoDeadline t i) e = ap (λ (x : Ticked). x .run) (ends (NoDeadline t i) e) ∙ begun-stays c s (λ z. unclean-undated (sym e ∙ z))
+
   -- nor in any number of ticks
   pub ticks-never-spill : (T : ℕ) {s : Run} → Running c s → (t q : ℕ) → ticks c T s .outcome ≡ Overflowed t q → q ≡ 0
   unfolding ticks
@@ -146,3 +173,11 @@ module _ {c : Chain} (enough : (j : ℕ) → j < c .n → Enough c j) where
   -- and so of a deadline run
   pub run-never-spills : Accepted c → (T t q : ℕ) → instants c T (freshRun c) .outcome ≡ Overflowed t q → q ≡ 0
   run-never-spills a T t q e = ticks-never-spill T (fresh-running a) t q (ap (λ (x : Ticked). x .outcome) (sym (run-is-ticks a T)) ∙ e)
+
+-- of a tick that is not refused: an overflow and 13 leave the state as it was handed in
+pub outcome-stays : (c : Chain) (s : Run) → Whole s → tickAnswer c s .number ≡ 0 → (tickAnswer c s .outcome ≡ Clean → ⊥) → tickAnswer c s .run ≡ s
+unfolding tickAnswer outcomeOf
+outcome-stays c s w ok n =
+    let t : Ticking c s = ticking-is c s .0 ok in
+    let ran : tickAnswer c s ≡ ranAs (tick c s) = tick-ran c s ok in
+    ap (λ (a : TickAnswer). a .run) ran ∙ ended-stays (t .enough) (record { chain = t .chain; whole = w; state = t .state }) (λ z. n (ap (λ (a : TickAnswer). a .outcome) ran ∙ z))
