@@ -330,62 +330,34 @@ static void answer_large(void)
     free(bytes);
 }
 
+/* What answers each request, by its letter. */
+static const struct {
+    char letter;
+    void (*answer)(void);
+} answers[] = {
+    {'r', answer_read}, {'w', answer_write}, {'f', answer_factory}, {'a', answer_analyse},
+    {'p', answer_report}, {'s', answer_fresh}, {'m', answer_fire}, {'h', answer_history},
+    {'i', answer_immediate}, {'q', answer_deadline}, {'d', answer_deadline_run}, {'e', answer_each_length},
+    {'t', answer_tick}, {'k', answer_ticks}, {'u', answer_ticks_while_clean}, {'l', answer_large},
+};
+
+/* Answers the request of a letter. */
+static void answer(int letter)
+{
+    for (size_t i = 0; i < sizeof answers / sizeof answers[0]; i++) {
+        if (answers[i].letter == letter) {
+            answers[i].answer();
+            return;
+        }
+    }
+    give_up("there is no such call");
+}
+
 int main(void)
 {
-    int call;
-    while ((call = getchar()) != EOF) {
-        switch (call) {
-        case 'r':
-            answer_read();
-            break;
-        case 'w':
-            answer_write();
-            break;
-        case 'f':
-            answer_factory();
-            break;
-        case 'a':
-            answer_analyse();
-            break;
-        case 'p':
-            answer_report();
-            break;
-        case 's':
-            answer_fresh();
-            break;
-        case 'm':
-            answer_fire();
-            break;
-        case 'h':
-            answer_history();
-            break;
-        case 'i':
-            answer_immediate();
-            break;
-        case 'q':
-            answer_deadline();
-            break;
-        case 'd':
-            answer_deadline_run();
-            break;
-        case 'e':
-            answer_each_length();
-            break;
-        case 't':
-            answer_tick();
-            break;
-        case 'k':
-            answer_ticks();
-            break;
-        case 'u':
-            answer_ticks_while_clean();
-            break;
-        case 'l':
-            answer_large();
-            break;
-        default:
-            give_up("there is no such call");
-        }
+    int letter;
+    while ((letter = getchar()) != EOF) {
+        answer(letter);
         if (fflush(stdout) != 0)
             give_up("the answer can't be written");
     }

@@ -10,7 +10,7 @@ pub use Rattle.instants.specs.Kept.{Running, TickStep, Countable, tick-step, be
 pub use Rattle.instants.specs.Lacking.{FirstLacking, lacking-exact, lacking-silent}
 pub use Rattle.instants.specs.Fresh.{fresh-running, fresh-rests, run-is-ticks, Paced, fresh-paced, paced-countable, tick-paced}
 pub use Rattle.instants.specs.Best.{First, Best, choose-best, best-unique, choose-is, chosen-best, chosen-only, choose-shift, chosen-shift}
-pub use Rattle.instants.specs.Spill.{room-after-choice, finish-never-spills, ticks-never-spill, run-never-spills}
+pub use Rattle.instants.specs.Spill.{room-after-choice, finish-never-spills, ended-stays, outcome-stays, ticks-never-spill, run-never-spills}
 unfoldable pub use Rattle.traces.specs.Trace.{tracing, sourceEntry, finishEntry, finishTrace, tickTrace, trace}
 pub use Rattle.traces.specs.Trace.{Entry, nodes, resting, Replays}
 pub use Rattle.traces.specs.Traced.{tick-traced, traced, run-traced, run-counted, run-balance, run-naming}

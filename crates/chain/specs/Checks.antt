@@ -55,7 +55,7 @@ field at least most v = record { place = at; least = least; most = most; value =
 abbrev pub ticks : ℕ → ℕ → Field
 ticks at v = field at 1 1000000 v
 
--- "p, τ, c 1 to 65,535; B 0 to 1,000,000; reserved 0", in the order of the row's words
+-- "p, τ, c 1 to 65,535; .. B 0 to 1,000,000 ..; reserved 0", in the order of the row's words
 unfoldable pub rowFields : Queue → ℕ → List Field
 rowFields q at =
     field at 1 65535 (q .produce)

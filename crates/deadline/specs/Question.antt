@@ -17,7 +17,7 @@
 --   deadline-most              no deadline is above 4,294,967,294 × 1,000,000 where no index passes
 --   dated-had, dated-never     what datedOf is where 13 is silent, and where it speaks
 --   dated-exact                it is never exactly when 13 speaks
-use mathlib.Core.Path.{_≡_, refl, sym, _∙_}
+use mathlib.Core.Path.{_≡_, refl, sym}
 use mathlib.Core.Logic.{_↔_, _≢_, _⊎_, Iff·trans, Iff·and, Iff·rfl}
 use mathlib.Core.Bool.{false, cond, _||_}
 use mathlib.Core.List.{List, [], _∷_, _++_}

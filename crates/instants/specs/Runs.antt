@@ -74,7 +74,7 @@ module _ (c : Chain) where
           ∙ ap (λ (r : Ticked). onward r (ticks c T)) (sym (tick-is u))
           ∙ sym (ticks-suc T u)
 
-  -- "a run of a+b ticks is a run of a ticks carried on for b"
+  -- a+b ticks are a ticks, carried on for b
   pub ticks-more : (a b : ℕ) (s : Run) → ticks c (a + b) s ≡ onward (ticks c a s) (ticks c b)
   ticks-more zero b s = ap (λ (T : ℕ). ticks c T s) (zero-add b) ∙ sym (onward-clean s (ticks c b)) ∙ ap (λ (r : Ticked). onward r (ticks c b)) (sym (ticks-none s))
   ticks-more (suc a) b s =

@@ -17,7 +17,7 @@ use Rattle.arith.specs.Division.{ceil, ceil-above, ceil-least}
 use Rattle.arith.specs.Gcd.{gcd, gcd-pos-left, gcd-le-left, gcd-mul-right, cofactor-pos}
 use Rattle.onequeue.specs.Residue.{residue, Largest, residue-largest, residue-rest, largest-unique, largest-next}
 
--- 01's "minimum b of a queue: with g = gcd(p, c), the largest multiple of g below τ, plus p"
+-- 01's "minimum b of a queue: with g = gcd(p,c), the largest multiple of g below τ, plus p"
 unfoldable pub minimum : ℕ → ℕ → ℕ → ℕ → ℕ
 unfolding residue gcd
 minimum s p τ c = residue s τ (gcd p c) + p
@@ -50,7 +50,7 @@ pub minimum-rest : (p τ c : ℕ) → 0 < τ → minimum 0 p τ c ≡ (τ - 1) -
 unfolding minimum
 minimum-rest p τ c h = rw (residue-rest 0 τ (gcd p c) h, sub-zero, zero-add)
 
--- 01's "naming count of demand 3: (τ - c)/p rounded up, plus c/g"; c ≤ τ, so at s = 0 the minus is exact, and a start past τ - c makes the first part 0
+-- 01's "naming count of demand 3: (τ−c)/p rounded up, plus c/g"; c ≤ τ, so at s = 0 the minus is exact, and a start past τ - c makes the first part 0
 unfoldable pub naming : ℕ → ℕ → ℕ → ℕ → ℕ
 unfolding ceil gcd
 naming s p τ c = ceil (τ - c - s) p + c / gcd p c

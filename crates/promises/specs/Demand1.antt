@@ -34,7 +34,7 @@ use Rattle.ardenquill.specs.Files.{readChecks, read-numbered, readRefusal, read
 use Rattle.ardenquill.specs.Analyses.{emptyAnalysis, sized, analyseChecks, analyse-numbered, analyseRefusal, analyseAnswer, runChecks, run-numbered, runRefusal, runAnswer}
 use Rattle.ardenquill.specs.Reports.{refusalText, reportText, reportChecks, report-numbered, reportRefusal}
 use Rattle.ardenquill.specs.Runs as runs
-use Rattle.ardenquill.specs.Runs.{emptyRun, freshAnswer, fireChecks, fire-numbered, fireRefusal, fireAnswer, fresh-refused, fire-refused, AlikeChains, AlikeRuns, Whole, KeptPast, analysis-alike, fresh-alike, fire-alike}
+use Rattle.ardenquill.specs.Runs.{emptyRun, freshAnswer, fireChecks, fire-numbered, fireRefusal, fireAnswer, fresh-refused, fire-refused, AlikeChains, AlikeRuns, Whole, KeptPast, analysis-alike, run-analysis-alike, fresh-alike, fire-alike}
 use Rattle.ardenquill.specs.Immediate.{immediateChecks, immediate-numbered, immediateRefusal, immediateAnswer, immediate-refused, immediate-alike}
 use Rattle.ardenquill.specs.Deadlines.{answeredDue, deadlineChecks, deadline-numbered, deadlineRefusal, deadlineAnswer, deadline-refused}
 use Rattle.ardenquill.specs.Flat.{coded}
@@ -175,9 +175,9 @@ module _ (c : Chain) (s : Run) where
 -- and not read: chains and states that differ there only are answered alike
 module _ {c d : Chain} (a : AlikeChains c d) where
   -- a chain
-  pub chain-past : ((analyseAnswer c ≡ analyseAnswer d) × (freshAnswer c ≡ freshAnswer d))
+  pub chain-past : ((analyseAnswer c ≡ analyseAnswer d) × ((runAnswer c ≡ runAnswer d) × (freshAnswer c ≡ freshAnswer d)))
       × (((k : ℕ) → immediateAnswer c k ≡ immediateAnswer d k) × (((i k : ℕ) → deadlineAnswer c i k ≡ deadlineAnswer d i k) × ((T : ℕ) → deadlineRunAnswer c T ≡ deadlineRunAnswer d T)))
-  chain-past = ((analysis-alike a, fresh-alike a), (immediate-alike a, (question-alike a, deadline-run-alike a)))
+  chain-past = ((analysis-alike a, (run-analysis-alike a, fresh-alike a)), (immediate-alike a, (question-alike a, deadline-run-alike a)))
 
   -- and so they are written, whatever the room
   pub write-past : (room : ℕ) → (writeRefusal c room ≡ writeRefusal d room) × (packed c ≡ packed d)

@@ -4,9 +4,13 @@
 --                            p, τ and c of queue j, and e of N_(j+1)
 --   Accepts c, line c j, rateX c i, rateY c i
 --                            analyse does not refuse c; what it answers of queue j, and of N_i's rate (Replay)
+--   Sound c, AcceptedFile f, Accepted c
+--                            a record, a file and a chain that no check refuses, in words (Chains, Files, Analyses)
+--   analyse-, read-, write-, report-when
+--                            when each of these calls is not refused
 --   rate-x, rate-y           "Node rates"
---   Smallest, smallest, papers-agree, naming-count
---                            "smallest capacities", as 000 and 004 write them, and the naming count of demand 3
+--   Smallest, smallest, papers-agree, naming-count, unwritten, written
+--                            "smallest capacities", as 000 and 004 write them; the naming count of demand 3; the capacity in force and the margin
 --   sumOf, load, load-exact, load-within
 --                            "load"
 --   indexBefore, deadline-when, deadline-source, deadline-next
@@ -23,8 +27,13 @@
 --                            "both kinds of run", the immediate one: accepted when; its firings, and that they are by the rule; its exact counts
 --   DeadlineRuns c T, ticksFrom c T s
 --                            the deadline run is not refused; T ticks as their calls answer them (ByTicks)
---   deadline-run-when, deadline-run-is, by-ticks, tick-when, tick-is, chosen-is
---                            the deadline run: accepted when; by 01's instants; tick by tick; one tick; and the node that works
+--   begun, worked, chosen, finished, instants, onward, clean, ranAs
+--                            the steps of a tick, 01's instants, what follows a clean one, and the answer of a run that no check refused (Ticks)
+--   Ticking c s, Best, next s i, over c s i
+--                            no check refuses the tick; earliest, ties nearest the sink; the index of N_i's next firing; N_i is over threshold (Ticks, Runs)
+--   limit, most, longest     4,294,967,295; 1,000,000 firings; 1,000,000 ticks
+--   deadline-run-when, deadline-run-is, by-ticks, tick-when, tick-is, tick-ends, thirteen-when, chosen-is
+--                            the deadline run: accepted when; by 01's instants; tick by tick; one tick; what an outcome leaves; 13; and the node that works
 --   reads-back, writes-packed, packed-is-itself
 --                            "Reading a written chain file gives the chain back; writing a chain that was read gives the packed file"
 use mathlib.Core.Path.{_≡_, refl, sym, ap, subst, _∙_}
@@ -33,21 +42,42 @@ use mathlib.Core.List.{List, _++_}
 use Prim.Native.Nat.{ℕ, zero, suc, _+_, _-_, _*_, _/_, _≤_, _<_, _∣_}
 use native.Mathlib.Nat.{sub-zero}
 use native.Mathlib.Omega.{arith}
+use lib.IntN.{pos, _+ℤ_}
 use lib.ListN.{length, take, drop, replicate}
-use Rattle.ardenquill.specs.Chains.{rowOf, workOf, trimmed}
-use Rattle.ardenquill.specs.Files.{countOf, queuesAt, nodesAt, readAnswer, packedLength, packed, writeRefusal, Output, Bytes, packedFile, read-of-write, write-of-read, packed-again}
-use Rattle.ardenquill.specs.Analyses.{ceil, gcd, gcd-pos-left, residue, residue-000, residue-004, naming, common, nextX, nextY, xOf, yOf, y-multiple, busyIn, limit, analysisOf, analyseAnswer, Accepted}
+use Rattle.ardenquill.specs.Chains as chains
+use Rattle.ardenquill.specs.Chains.{rowOf, workOf, trimmed, refused, Sound}
+use Rattle.ardenquill.specs.Files.{countOf, queuesAt, nodesAt, readAnswer, packedLength, packed, writeRefusal, Output, Bytes, packedFile, read-of-write, write-of-read, packed-again, chainOf, AcceptedFile, read-accepts, write-accepts}
+use Rattle.ardenquill.specs.Analyses.{ceil, gcd, gcd-pos-left, residue, residue-000, residue-004, naming, common, nextX, nextY, xOf, yOf, y-multiple, busyIn, limit, analysisOf, analyseAnswer, Accepted, capacity-minimum, capacity-written, margin-unwritten, margin-balance}
 use Rattle.ardenquill.specs.Runs as runs
 use Rattle.ardenquill.specs.Runs.{countAt, heldAt, freshRun, fired, over, May, StateSound, Whole, Firing, firing-is, fireAnswer, fire-accepts, fire-accepted, count-fired, count-other, held-output, held-other}
 use Rattle.ardenquill.specs.Histories.{times}
 use Rattle.ardenquill.specs.Immediate as immediate
 use Rattle.ardenquill.specs.Immediate.{F, fires, fires-below, fires-from, schedule, Follows, rule, most, immediateAnswer, immediate-accepts, permitted, counts-are-F}
 use Rattle.ardenquill.specs.Deadlines.{earlier, earlier-some, deadline, index, answeredDue, deadlineAnswer, deadline-accepts, deadline-due}
-use Rattle.ardenquill.specs.Ticks.{clean, onward, next, chosen, worked, begun, advanced, finished, tick, instants, longest, outcomeOf, tickAnswer, deadlineRunAnswer, ranAs, Ticking, ticking-is, tick-ran, deadline-run-accepts, Best, chosen-best}
-use Rattle.ardenquill.specs.Records.{Chain, ChainAnswer, LengthAnswer, Analysis, Run}
+use Rattle.ardenquill.specs.Ticks.{clean, onward, next, chosen, worked, begun, advanced, finished, tick, instants, longest, outcomeOf, tickAnswer, deadlineRunAnswer, ranAs, Ticking, ticking-is, tick-ran, deadline-run-accepts, Best, chosen-best, lacking, FirstLacking, lacking-exact, outcome-stays}
+use Rattle.ardenquill.specs.Records.{Chain, ChainAnswer, LengthAnswer, Analysis, Run, Clean}
+use Rattle.ardenquill.specs.Reports.{reportText, reportRefusal, report-accepts}
 use Rattle.promises.specs.Replay.{pOf, τOf, cOf, Accepts, line, rateX, rateY, replayAnswer, Fires, Ample, Low, NearestFirst, Runs, accepts-is, fires-is}
-use Rattle.promises.specs.Laws.{report-is, x-is, y-is, by-is, capacity-is, rate-x-is, rate-y-is, last, minimum-by, minimum-as, largest-multiple, may-run-is, index-down, taken, state-is, moment, follows-at, parts, sound, ends-in, keeps, fed-by}
+use Rattle.promises.specs.Laws.{report-is, x-is, y-is, by-is, capacity-is, rate-x-is, rate-y-is, last, minimum-by, minimum-as, largest-multiple, may-run-is, index-down, taken, state-is, moment, follows-at, parts, sound, ends-in, keeps, fed-by, minimum-is, margin-is, output-silent}
 use Rattle.promises.specs.ByTicks.{DeadlineRuns, ticksFrom, answer-is, ticks-are-run}
+
+-- 01's "a chain it doesn't refuse is accepted": its fields in their ranges, no consume above its threshold, every rate within the limit, and no overload
+pub analyse-when : (c : Chain) → Accepts c ↔ Accepted c
+analyse-when = accepts-is
+
+-- 01's "The reader checks 1 to 5": a file is read exactly when its length is right, its tables are placed in it and its chain is sound
+pub read-when : (f : List ℕ) → (readAnswer f .number ≡ 0) ↔ AcceptedFile f
+unfolding readAnswer chains.answered
+read-when = read-accepts
+
+-- 01's "The writer checks 2, 4, 5, 10": a chain is written into lent bytes o exactly when it is sound and they are enough
+pub write-when : (c : Chain) (o p : List ℕ) (a : LengthAnswer) → Output (writeRefusal c (length o)) (packed c) o p a → (a .number ≡ 0) ↔ (Sound c × (packedLength (c .n) ≤ length o))
+write-when c o p a w = Iff·trans (output-silent w) (write-accepts c (length o))
+
+-- and a file is reported on exactly when it is read, its chain is accepted, and there is room
+pub report-when : (f o p : List ℕ) (a : LengthAnswer) → Output (reportRefusal f (length o)) (reportText f) o p a
+    → (a .number ≡ 0) ↔ (AcceptedFile f × (Accepted (chainOf f) × (length (reportText f) ≤ length o)))
+report-when f o p a w = Iff·trans (output-silent w) (report-accepts f (length o))
 
 -- 01's "with g = gcd(p,c), the largest multiple of g below τ, plus p"
 pub record Smallest (p τ c b : ℕ) : Type 0 where
@@ -103,6 +133,15 @@ module _ (c : Chain) (ok : Accepts c) where
     pub naming-count : line c j .by ≡ ceil (τOf c j - cOf c j) (pOf c j) + cOf c j / gcd (pOf c j) (cOf c j)
     unfolding naming
     naming-count = by-is c known j l ∙ rw sub-zero
+
+    -- 01's "with B=0 the capacity is b and the margin 0"
+    pub unwritten : rowOf c j .capacity ≡ 0 → (line c j .capacity ≡ line c j .minimum) × (line c j .margin ≡ pos 0)
+    unwritten z = (capacity-is c known j l ∙ rw z (capacity-minimum _) ∙ sym (minimum-is c known j l), margin-is c known j l ∙ margin-unwritten (rowOf c j) z)
+
+    -- 01's "Margin: B − b, signed", as a sum
+    pub written : rowOf c j .capacity ≢ 0 → (line c j .capacity ≡ rowOf c j .capacity) × (pos (line c j .minimum) +ℤ line c j .margin ≡ pos (rowOf c j .capacity))
+    written n =
+        (capacity-is c known j l ∙ capacity-written _ _ n, rw (minimum-is c known j l, margin-is c known j l) (margin-balance _ _ ∙ ap pos (capacity-written _ _ n)))
 
   -- "load .. equal the published Processing Graph Method rules as document 01 condenses them": busy, "per cycle y_n"
   pub load : (analyseAnswer c .analysis .cycle ≡ rateY c (c .n)) × (analyseAnswer c .analysis .busy ≡ sumOf c (analyseAnswer c .analysis .cycle) (c .n))
@@ -252,6 +291,14 @@ module _ (c : Chain) (s : Run) where
   pub tick-is : tickAnswer c s .number ≡ 0 → tickAnswer c s ≡ ranAs (onward (onward (begun c s) (λ u. clean (worked u (chosen c u)))) (finished c))
   unfolding tickAnswer outcomeOf tick advanced
   tick-is ok = tick-ran c s ok
+
+  -- "the state being that before the production", and of 13 "that before the source's step": a tick that overflows or has no deadline leaves the state as it was
+  pub tick-ends : Whole s → tickAnswer c s .number ≡ 0 → tickAnswer c s .outcome ≢ Clean → tickAnswer c s .run ≡ s
+  tick-ends = outcome-stays c s
+
+  -- 13's "place the lowest such over-threshold node", whose "deadline can't be had"; s is the state after the source's step
+  pub thirteen-when : (L : ℕ) → (lacking c s ≡ refused 13 L) ↔ FirstLacking c s L
+  thirteen-when = lacking-exact c s
 
   -- the node that works is "the over-threshold node whose next firing has the earliest deadline, ties to the one nearest the sink"
   pub chosen-is : Best (λ i. deadline c i (next s i)) (over c s) (c .n) (chosen c s)

@@ -59,7 +59,7 @@ pub run-peak : (c : Chain) (k : ℕ) → Runs c k → (j : ℕ) → j < c .n →
 run-peak c k ran = peak c (schedule c k) (immediate-fires c k ran) (nearest-at-once c (schedule c k) (immediate-rule c k ran))
 
 module _ (c : Chain) (j : ℕ) (l : j < c .n) where
-  -- "a node that has fired keeps exactly its x firings per y ticks", of m times y ticks: y ticks are y/period firings of the source
+  -- "a node that has fired keeps exactly its x firings per y ticks", of m times y ticks: y ticks are y/period firings of the source, whose own count is k (immediate-exact)
   pub rates : (k m : ℕ) → Runs c k → Runs c (k + m * (line c j .y / c .period)) → 0 < countAt (immediateAnswer c k .run) (suc j)
       → countAt (immediateAnswer c (k + m * (line c j .y / c .period)) .run) (suc j) ≡ countAt (immediateAnswer c k .run) (suc j) + m * line c j .x
   rates k m ran more has =

@@ -1,5 +1,5 @@
 -- What the theorems of the demands are proved by: what a line of the analysis says, and permitted orders and immediate runs by their definitions.
---   line-is, x-, y-, minimum-, by-, capacity-is
+--   line-is, x-, y-, minimum-, by-, capacity-, margin-is
 --                            the line of a queue by 01's formulas, and its parts
 --   rate-x-is, rate-y-is     a node's reported rate
 --   report-is                the analysis that is answered
@@ -13,6 +13,7 @@
 --                            of a permitted order: its chain, its firings, its state, the state at each moment, and that it is prompt
 --   quiet, parts, sound, ends-in, keeps
 --                            of an immediate run: its checks, what they leave to be known, and its state
+--   output-silent            a call that writes is not refused exactly when its checks are silent
 --   write-alike              chains that differ in slots past n only are written alike
 --   Each, Firings            something holds at each moment of a list, or of each of its firings, one by one
 use mathlib.Core.Path.{_≡_, refl, sym, ap, subst, _∙_}
@@ -23,16 +24,16 @@ use native.Mathlib.Nat.{zero-add, zero-mod, mod-eq-zero-of-dvd, dvd-of-mod-eq-ze
 use native.Mathlib.Omega.{arith}
 use lib.ListN.{getD}
 use borrow.Author.Tests.{lt-leb}
-use Rattle.ardenquill.specs.Chains.{row, rowOf, first, Sound}
-use Rattle.ardenquill.specs.Files.{bytesOf, packedLength, header, rows, nodes, packed, roomCheck, writeRefusal}
+use Rattle.ardenquill.specs.Chains.{row, rowOf, first, Silent, Sound}
+use Rattle.ardenquill.specs.Files.{bytesOf, packedLength, header, rows, nodes, packed, roomCheck, writeRefusal, Output}
 use Rattle.ardenquill.specs.Analyses as sizes
-use Rattle.ardenquill.specs.Analyses.{gcd, gcd-pos-left, residue, Largest, residue-largest, xOf, yOf, source-rate, minimumOf, namingOf, capacityOf, sizeBy, sizeOf, noSize, size-at, analysisOf, analyseAnswer, Accepted, analysed, Enough}
+use Rattle.ardenquill.specs.Analyses.{gcd, gcd-pos-left, residue, Largest, residue-largest, xOf, yOf, source-rate, minimumOf, namingOf, capacityOf, marginOf, sizeBy, sizeOf, noSize, size-at, analysisOf, analyseAnswer, Accepted, analysed, Enough}
 use Rattle.ardenquill.specs.Runs.{heldAt, freshRun, answered, fired, Whole, Firing, held-input, over-enough, AlikeChains, flat-alike, record-alike}
 use Rattle.ardenquill.specs.Histories.{after, Permitted, Prompt, EachFiring}
 use Rattle.ardenquill.specs.Immediate as immediate
 use Rattle.ardenquill.specs.Immediate.{F, fires, Reached, schedule, Next, Follows, most, immediateRefusal, immediateAnswer, immediate-accepts, immediate-ran}
 use Rattle.ardenquill.specs.Deadlines.{earlier, index}
-use Rattle.ardenquill.specs.Records.{Queue, Chain, QueueSize, Analysis, AnalysisAnswer, Run}
+use Rattle.ardenquill.specs.Records.{Refusal, Queue, Chain, LengthAnswer, QueueSize, Analysis, AnalysisAnswer, Run}
 use Rattle.promises.specs.Replay.{pOf, τOf, cOf, Accepts, Ample, line, rateX, rateY, replayAnswer, Fires, LowAt, AtOnce, Runs, accepts-is, fires-is, fires-state, fires-before}
 
 -- the line of a queue of an accepted chain
@@ -64,6 +65,10 @@ module _ (c : Chain) (a : Accepted c) where
     pub capacity-is : line c j .capacity ≡ capacityOf (rowOf c j)
     unfolding sizeBy
     capacity-is = ap (λ (q : QueueSize). q .capacity) line-is
+
+    pub margin-is : line c j .margin ≡ marginOf (rowOf c j)
+    unfolding sizeBy
+    margin-is = ap (λ (q : QueueSize). q .margin) line-is
 
     -- the residue of the queue
     pub last : Largest 0 (τOf c j) (gcd (pOf c j) (cOf c j)) (residue 0 (τOf c j) (gcd (pOf c j) (cOf c j)))
@@ -168,6 +173,10 @@ module _ (c : Chain) (k : ℕ) (ran : Runs c k) where
   -- which keeps what firings keep
   pub keeps : Reached c (immediateAnswer c k .run)
   keeps = rw ends-in (immediate.reached sound k)
+
+-- a call that writes answers 0 exactly when its checks are silent
+pub output-silent : {r : Refusal} {t o p : List ℕ} {a : LengthAnswer} → Output r t o p a → (a .number ≡ 0) ↔ Silent r
+output-silent w = (λ z. sym (ap (λ (x : LengthAnswer). x .number) (w .answer)) ∙ z, λ z. ap (λ (x : LengthAnswer). x .number) (w .answer) ∙ z)
 
 -- chains that differ in slots past n only are written alike
 module _ {c d : Chain} (a : AlikeChains c d) where

@@ -16,7 +16,7 @@ use Rattle.chain.specs.declared.Chain.{Chain}
 use Rattle.sizing.specs.Checks.{limit, runRefusal}
 use Rattle.past.specs.Chains.{AlikeChains, run-alike}
 use Rattle.deadlines.specs.Deadline.{earlier, deadline, indexCheck}
-use Rattle.deadline.specs.Question.{answeredDue, refusedWith, answered-refused, askCheck, deadlineRefusal, deadlineAnswer, deadline-parts, deadline-accepts}
+use Rattle.deadline.specs.Question.{answeredDue, refusedWith, answered-refused, deadlineRefusal, deadlineAnswer, deadline-parts, deadline-accepts}
 
 -- of no node of the chain 11 is all that a question adds to the checks of a run
 no-node : (c : Chain) (i k : ℕ) → c .n < i → deadlineRefusal c i k ≡ orElse (runRefusal c) (refused 11 i)
