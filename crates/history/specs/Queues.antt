@@ -8,7 +8,6 @@
 --   puts-times, takes-times  its puts are the firings of N_q, its takes those of N_(q+1)
 --   Cut q h es               a beginning of h in which queue q sees es
 --   cut                      there is one for the first events of each history
---   slots-after              firings keep the number of slots
 --   held-contents            after a permitted history the queue holds what its events leave in it
 --   queue-allowed            each of its takes finds τ
 --   queue-settled            and where the history is prompt, no put does
@@ -131,12 +130,6 @@ unfolding Settled contents
 settled-append p τ c x [] more a b = b
 settled-append p τ c x (put ∷ es) more a b = (a .0, settled-append p τ c (x + p) es more (a .1) b)
 settled-append p τ c x (take ∷ es) more a b = settled-append p τ c (x - c) es more a b
-
--- firings keep a count for each node and a slot for each queue
-pub slots-after : {n : ℕ} (c : Chain) (s : Run) (h : List ℕ) → Slots n s → Slots n (after c s h)
-unfolding after
-slots-after c s [] k = k
-slots-after c s (i ∷ h) k = slots-after c (fired c s i) h (slots-kept c s i k)
 
 module _ (c : Chain) (q : ℕ) (inside : q < c .n) where
   -- one firing that is not refused, as the queue sees it
