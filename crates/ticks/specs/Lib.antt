@@ -1,5 +1,4 @@
-pub mod Left
 pub mod Runs
+pub mod Left
 pub mod Late
 pub mod Passes
-pub mod Asked

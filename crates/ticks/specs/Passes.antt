@@ -1,234 +1,242 @@
--- A deadline run over what it lends: what holds before each tick.
---   kept-as, keeps-source    a deadline that is kept stays right while its node's count stays, so after the source's step
---   tick-next, tick-stands   one tick more, and an outcome that is not clean stands
---   Gone c T m g d e i       m ticks from a fresh start were clean, and what is lent shows where they led
---   Going                    of every chain that is lent
---   going-none, -pass, -rests, -dates, -fires
---                            at the start, what the next tick asks, a tick in which no node fired, what the deadline of a node that fired asks, and
---                            a tick in which it did
+-- Ticks over what is lent: what holds before each of them.
+--   kept-as                  a deadline that is kept stays right while its node's count stays
+--   goes-on, goes-no-further what follows a clean outcome, and that nothing follows another
+--   stands-in                a state that is lent for a tick is one that a tick can be made of
+--   endedBy r, allClean k    how ticks end with one that leaves r, and where all are clean up to clock k
+--   Gone l g o h k U i c x   a state is lent at clock k, and its ticks up to clock U leave x; o has the deadlines that they look at, and i is the node that works, or stale
+--   Going                    so for every state that was lent at the start, x being what all its ticks leave
+--   going-stand, -none       at the start: what the deadlines ask, and that none was made
+--   going-pass, -rests, -dates, -fires, -last
+--                            what the next tick asks, a tick in which no node fired, what the deadline of a node that fired asks, a tick in which one did, and the last such tick
+--   going-slot               where that deadline is kept
 --   going-ends, -done        at the first outcome that is not clean, and after the last tick
 use mathlib.Core.Path.{_≡_, refl, sym, ap, subst, _∙_}
-use mathlib.Core.Logic.{_≢_, by-cases}
+use mathlib.Core.Logic.{_≢_, _⊎_, inl, inr, ⊎-elim, by-cases}
 use mathlib.Core.Bool.{Bool, true, false, cond}
 use mathlib.Core.List.{List}
 use Prim.Native.Nat.{ℕ, suc, _+_, _-_, _≤_, _<_}
 use native.Mathlib.Decide.{ℕ-discrete}
 use native.Mathlib.Omega.{arith}
-use lib.ListN.{length, set, length-set}
+use lib.Dec.{ltb}
+use lib.ListN.{length, getD, set, length-set}
 use lib.Seq.{getD-set-same, getD-set-other}
+use borrow.Author.Tests.{lt-ltb}
+use Rattle.chain.specs.Record.{rowOf}
 use Rattle.chain.specs.declared.Chain.{Chain}
-use Rattle.state.specs.State.{countAt, freshRun}
-use Rattle.state.specs.Fired.{fired}
+use Rattle.state.specs.State.{countAt}
+use Rattle.state.specs.Fired.{Over}
 use Rattle.state.specs.declared.Run.{Run}
-use Rattle.flow.specs.Flow.{Shows}
 use Rattle.deadline.specs.Question.{datedOf}
 use Rattle.deadline.specs.Dues.{Shown, Dated, DatedGives}
-use Rattle.instants.specs.Checks.{longest}
-use Rattle.instants.specs.Steps.{clean, goes, onward, sourced, next, tick, ticks}
-use Rattle.instants.specs.Runs.{onward-none, ticks-none, ticks-suc, ticks-more}
-use Rattle.instants.specs.Kept.{sourced-others, TickStep, tick-step}
-use Rattle.instants.specs.Fresh.{Paced, fresh-paced, tick-paced}
+use Rattle.instants.specs.Steps.{goes, onward, sourced, next, tick, ticks}
+use Rattle.instants.specs.Runs.{ticks-none, ticks-suc}
+use Rattle.instants.specs.Kept.{sourced-others, sourced-held, TickStep, tick-step}
 use Rattle.instants.specs.declared.Outcome.{Outcome}
 use Rattle.instants.specs.declared.Outcome.the-variants.{Clean, Overflowed, NoDeadline}
 use Rattle.instants.specs.declared.Ticked.{Ticked}
-use Rattle.steps.specs.Lent.{Stands, Keeps, Known}
-use Rattle.steps.specs.Passed.{PassIn, Passes, PassTo, PassGives}
+use Rattle.steps.specs.Lent.{Stands, Known}
+use Rattle.steps.specs.Passed.{Stand, Wanted, DuesGive, PassIn, Passes, PassTo, PassGives}
 use Rattle.steps.specs.Ticked.{as-clean, as-unclean}
 use Rattle.steps.specs.declared.Passed.{Passed}
-use Rattle.ticks.specs.Runs.{KeepsAll, LendsIn, Lends, RanTo, RanGives}
+use Rattle.ticks.specs.Runs.{LendsIn, Lends, RanTo, RanGives}
+use Rattle.ticks.specs.declared.Ended.{Ended}
 
 -- a deadline that is kept stays right as long as the node's count does
-pub kept-as : (c : Chain) (s t : Run) (j : ℕ) {v : ℕ} → countAt t (suc j) ≡ countAt s (suc j) → v ≡ datedOf c (suc j) (next s (suc j)) → v ≡ datedOf c (suc j) (next t (suc j))
+kept-as : (c : Chain) (s t : Run) (j : ℕ) {v : ℕ} → countAt t (suc j) ≡ countAt s (suc j) → v ≡ datedOf c (suc j) (next s (suc j)) → v ≡ datedOf c (suc j) (next t (suc j))
 kept-as c s t j e h = h ∙ ap (λ (n : ℕ). datedOf c (suc j) (suc n)) (sym e)
 
--- so the source's step leaves every deadline that is kept
-pub keeps-source : (d : List ℕ) (c : Chain) (s : Run) → KeepsAll d c s → Keeps d c (sourced c s .run)
-keeps-source d c s k = record { due = λ j l o. kept-as c s (sourced c s .run) j (sourced-others c s j) (k j l) }
-
-module _ (c : Chain) where
-  -- one tick more
-  pub tick-next : (m : ℕ) (s : Run) → ticks c m s .outcome ≡ Clean → ticks c (m + 1) s ≡ tick c (ticks c m s .run)
+-- what follows a clean outcome, and that nothing follows another
+module _ (r : Ticked) (f : Run → Ticked) where
+  goes-on : r .outcome ≡ Clean → onward r f ≡ f (r .run)
   unfolding onward goes
-  tick-next m s h =
-      ticks-more c m 1 s
-      ∙ ap (λ (o : Outcome). goes o (ticks c m s .run) (ticks c 1)) h
-      ∙ ticks-suc c 0 (ticks c m s .run)
-      ∙ ap (onward (tick c (ticks c m s .run))) (λ z u. ticks-none c u z)
-      ∙ onward-none (tick c (ticks c m s .run))
+  goes-on h = ap (λ (o : Outcome). goes o (r .run) f) h
 
-  -- an outcome that is not clean stands
-  pub tick-stands : (m T : ℕ) (s : Run) → m ≤ T → (ticks c m s .outcome ≡ Clean → ⊥) → ticks c T s ≡ ticks c m s
+  goes-no-further : (r .outcome ≡ Clean → ⊥) → onward r f ≡ r
   unfolding onward
-  tick-stands m T s l n = ap (λ (k : ℕ). ticks c k s) (omega arith) ∙ ticks-more c m (T - m) s ∙ by (ticks c m s .outcome) (ticks c m s .run) n
+  goes-no-further = by (r .outcome) (r .run)
     where
-      by : (o : Outcome) (u : Run) → (o ≡ Clean → ⊥) → goes o u (ticks c (T - m)) ≡ record { outcome = o; run = u }
+      by : (o : Outcome) (u : Run) → (o ≡ Clean → ⊥) → goes o u f ≡ record { outcome = o; run = u }
       by Clean u n = absurd (n refl)
       by (Overflowed t q) u n = refl
       by (NoDeadline t i) u n = refl
 
--- m ticks from a fresh start were clean, and what is lent shows where they led
-pub record Gone (c : Chain) (T m : ℕ) (g d e : List ℕ) (i : ℕ) : Type 0 where
-  pub most : m ≤ T
-  pub clean : ticks c m (freshRun c) .outcome ≡ Clean
-  pub clock : ticks c m (freshRun c) .run .clock ≡ m
-  pub paced : Paced c (ticks c m (freshRun c) .run)
-  pub shows : Shows g c (ticks c m (freshRun c) .run)
-  pub keeps : KeepsAll d c (ticks c m (freshRun c) .run)
-  pub wide : length d ≡ 16
-  pub done : e ≡ ticks c m (freshRun c) .run .done
-  pub known : Known c (ticks c m (freshRun c) .run) i
+-- a state that is lent for a tick is one that a tick can be made of
+stands-in : {l f e : List ℕ} {t T : ℕ} {c : Chain} {s : Run} → LendsIn l f e t T c s → 0 < T → Stands l f c s
+stands-in a some = record { shown = a .shown; running = a .running; counts = λ i n. omega (arith, a .counts i n) }
 
--- of every chain that is lent
-pub record Going (l f d e : List ℕ) (T m : ℕ) (g o h : List ℕ) (i : ℕ) : Type 0 where
-  pub gives : {c : Chain} → LendsIn l f d e T c → Gone c T m g o h i
+-- how ticks end with one that leaves r, and where all are clean up to clock k
+abbrev pub endedBy : Passed → Ended
+endedBy r = record { kind = r .kind; tick = r .tick; at = r .node }
 
--- none were made
-gone-none : {l f d e : List ℕ} {T : ℕ} {c : Chain} → LendsIn l f d e T c → Gone c T 0 f d e 17
-unfolding ticks freshRun
-gone-none {c = c} a = record {
-  most = omega arith;
-  clean = refl;
-  clock = refl;
-  paced = fresh-paced (a .accepted);
-  shows = a .shown .shows;
-  keeps = a .keeps;
-  wide = a .wide;
-  done = a .done;
-  known = λ h. absurd (omega arith);
-}
+abbrev pub allClean : ℕ → Ended
+allClean k = record { kind = 0; tick = k; at = 0 }
 
-pub going-none : (l f d e : List ℕ) (T : ℕ) → Going l f d e T 0 f d e 17
-going-none l f d e T = record { gives = gone-none }
+-- a state is lent whose ticks up to clock U leave x, with the deadlines that they look at: of the nodes that the source's step leaves over threshold and, where another tick follows, of
+-- every node
+pub record Gone (l g o h : List ℕ) (k U i : ℕ) (c : Chain) (x : Ticked) : Type 0 where
+  pub now : Run
+  pub lends : LendsIn l g h k (U - k) c now
+  pub rest : ticks c (U - k) now ≡ x
+  pub keeps : k < U → (j : ℕ) → j < c .n → (k + 1 < U) ⊎ Over c (sourced c now .run) (suc j) → getD o j 0 ≡ datedOf c (suc j) (next now (suc j))
+  pub wide : length o ≡ 16
+  pub known : Known c now i
 
--- before the next of them
-module _ {l f d e : List ℕ} {T : ℕ} {c : Chain} (a : LendsIn l f d e T c) {m : ℕ} {g o h : List ℕ} {i : ℕ} (y : Gone c T m g o h i) (more : m < T) where
+-- so for every state that was lent at the start
+pub record Going (l f e : List ℕ) (t T : ℕ) (g o h : List ℕ) (k U i : ℕ) : Type 0 where
+  pub gives : {c : Chain} {s : Run} → LendsIn l f e t T c s → Gone l g o h k U i c (ticks c T s)
+
+-- the start
+module _ {l f e : List ℕ} {t T : ℕ} where
+  pub going-stand : Lends l f e t T → Stand l f
+  going-stand a = record { chain = a .chain; run = a .run; stands = record { shown = a .lends .shown; running = a .lends .running; counts = a .counts } }
+
+  module _ {d : List ℕ} (g : DuesGive l f (ltb 1 T) 16 d) (wide : length d ≡ 16) where
+    module _ {c : Chain} {s : Run} (a : LendsIn l f e t T c s) where
+      wanted : (j : ℕ) → j < c .n → (t + 1 < t + T) ⊎ Over c (sourced c s .run) (suc j) → Wanted (ltb 1 T) c s j
+      wanted j n = ⊎-elim
+          (λ m. inl (inl (lt-ltb 1 T (omega arith))))
+          (λ o. by-cases (ℕ-discrete j 0) (λ z. inl (inr z)) (λ x. inr (subst (λ (m : ℕ). rowOf c j .threshold ≤ m) (sourced-held c s j (omega arith)) o)))
+
+      gone-none : Gone l f d e t (t + T) 17 c (ticks c T s)
+      gone-none =
+          let all : T ≡ t + T - t = omega arith in
+          record {
+            now = s;
+            lends = subst (λ (n : ℕ). LendsIn l f e t n c s) all a;
+            rest = ap (λ (n : ℕ). ticks c n s) (sym all);
+            keeps = λ m j n w. g .gives (stands-in a (omega arith)) j (omega (arith, a .shown .shows .few)) n (wanted j n w);
+            wide = wide;
+            known = λ h. absurd (omega arith);
+          }
+
+    pub going-none : Going l f e t T f d e t (t + T) 17
+    going-none = record { gives = gone-none }
+
+-- before the next tick
+module _ {l g o h : List ℕ} {k U i : ℕ} {c : Chain} {x : Ticked} (y : Gone l g o h k U i c x) (more : k < U) where
   abbrev now : Run
-  now = ticks c m (freshRun c) .run
+  now = y .now
 
-  early : now .clock < longest
-  early = omega (arith, y .clock, a .long)
-
-  stands-now : Stands l g c now
-  stands-now = record {
-    shown = record { plans = a .shown .plans; shows = y .shows };
-    running = y .paced .running;
-    counts = λ k n. omega (arith, y .paced .counts k n, early);
-  }
-
-  asks-now : PassIn l g o h m i c now
+  asks-now : PassIn l g o h k i c now
   asks-now = record {
-    stands = stands-now;
-    clock = y .clock;
-    early = omega (arith, a .long);
-    done = y .done;
-    keeps = keeps-source o c now (y .keeps);
+    stands = stands-in (y .lends) (omega arith);
+    clock = y .lends .clock;
+    early = omega (arith, y .lends .long);
+    done = y .lends .done;
+    keeps = record { due = λ j n b. kept-as c now (sourced c now .run) j (sourced-others c now j) (y .keeps more j n (inr b)) };
     known = y .known;
   }
 
-  -- after it, where it was clean
+  -- after it
   module _ {u v : List ℕ} {r : Passed} (p : PassTo c now u v r) where
-    next-is : ticks c (m + 1) (freshRun c) ≡ tick c now
-    next-is = tick-next c m (freshRun c) (y .clean)
+    rest-is : onward (tick c now) (ticks c (U - (k + 1))) ≡ x
+    rest-is = sym (ticks-suc c (U - (k + 1)) now) ∙ ap (λ (n : ℕ). ticks c n now) (omega arith) ∙ y .rest
 
-    ends-now : r .kind ≢ 0 → RanTo c T u v (record { kind = r .kind; tick = r .tick; at = r .node })
+    ends-now : r .kind ≢ 0 → RanTo c x u v (endedBy r)
     ends-now n =
-        let q : ticks c T (freshRun c) ≡ tick c now =
-        tick-stands c (m + 1) T (freshRun c) (omega arith) (λ z. as-unclean (r .kind) (r .tick) (r .node) n (sym (p .outcome) ∙ ap (λ (x : Ticked). x .outcome) (sym next-is) ∙ z)) ∙ next-is in
-        record {
-          outcome = ap (λ (x : Ticked). x .outcome) q ∙ p .outcome;
-          clock = ap (λ (x : Ticked). x .run .clock) q ∙ p .clock;
-          shows = subst (λ (x : Ticked). Shows u c (x .run)) (sym q) (p .shows);
-          done = p .done ∙ ap (λ (x : Ticked). x .run .done) (sym q);
-          low = p .low;
-        }
+        let last : tick c now .outcome ≡ Clean → ⊥ = λ z. as-unclean (r .kind) (r .tick) (r .node) n (sym (p .outcome) ∙ z) in
+        subst (λ (q : Ticked). RanTo c q u v (endedBy r)) (sym (goes-no-further (tick c now) _ last) ∙ rest-is)
+        (record { outcome = p .outcome; clock = p .clock; shows = p .shows; done = p .done })
 
     module _ (z : r .kind ≡ 0) where
       went : tick c now .outcome ≡ Clean
       went = p .outcome ∙ as-clean (r .kind) (r .tick) (r .node) z
 
       after : TickStep c now (tick c now .run)
-      after = tick-step (y .paced .running) went
+      after = tick-step (y .lends .running) went
 
-      paced-next : Paced c (tick c now .run)
-      paced-next = tick-paced (y .paced) went
+      shown-next : Shown l u c (tick c now .run)
+      shown-next = record { plans = y .lends .shown .plans; shows = p .shows }
 
-      gone-next : {w : List ℕ} {k : ℕ} → KeepsAll w c (tick c now .run) → length w ≡ 16 → Known c (tick c now .run) k → Gone c T (m + 1) u w v k
-      gone-next {w} {k} keeps wide known = record {
-        most = omega arith;
-        clean = ap (λ (x : Ticked). x .outcome) next-is ∙ went;
-        clock = ap (λ (x : Ticked). x .run .clock) next-is ∙ after .clock ∙ ap (λ (n : ℕ). n + 1) (y .clock);
-        paced = subst (λ (x : Ticked). Paced c (x .run)) (sym next-is) paced-next;
-        shows = subst (λ (x : Ticked). Shows u c (x .run)) (sym next-is) (p .shows);
-        keeps = subst (λ (x : Ticked). KeepsAll w c (x .run)) (sym next-is) keeps;
+      gone-next : {w : List ℕ} {m : ℕ} → (k + 1 < U → (j : ℕ) → j < c .n → getD w j 0 ≡ datedOf c (suc j) (next (tick c now .run) (suc j))) → length w ≡ 16 → Known c (tick c now .run) m → Gone l u w v (k + 1) U m c x
+      gone-next keeps wide known = record {
+        now = tick c now .run;
+        lends = record {
+          shown = shown-next;
+          running = after .running;
+          clock = after .clock ∙ ap (λ (n : ℕ). n + 1) (y .lends .clock);
+          done = p .done;
+          long = omega (arith, y .lends .long);
+          counts = λ j n. omega (arith, after .counts j n, y .lends .counts j n);
+        };
+        rest = sym (goes-on (tick c now) _ went) ∙ rest-is;
+        keeps = λ m j n w. keeps m j n;
         wide = wide;
-        done = p .done ∙ ap (λ (x : Ticked). x .run .done) (sym next-is);
-        known = subst (λ (x : Ticked). Known c (x .run) k) (sym next-is) known;
+        known = known;
       }
 
-      gone-rests : r .fired ≡ false → Gone c T (m + 1) u o v (r .node)
+      gone-rests : r .fired ≡ false → Gone l u o v (k + 1) U (r .node) c x
       gone-rests n = gone-next
-          (λ j l. kept-as c now (tick c now .run) j (p .others z j (λ b. absurd (let q : _≡_ {A = ℕ} 1 0 = ap (λ (x : Bool). cond x 1 0) (sym b ∙ n) in omega arith))) (y .keeps j l))
+          (λ m j b. kept-as c now (tick c now .run) j (p .others z j (λ a. absurd (let q : _≡_ {A = ℕ} 1 0 = ap (λ (x : Bool). cond x 1 0) (sym a ∙ n) in omega arith))) (y .keeps more j b (inl m)))
           (y .wide) (p .known z n)
 
-      dated-asks : r .fired ≡ true → Dated l u (r .node)
-      dated-asks b = record {
-        chain = c;
-        run = tick c now .run;
-        shown = record { plans = a .shown .plans; shows = p .shows };
-        sound = a .accepted .chain;
-        node = p .low;
-        count = omega (arith, paced-next .counts (r .node) (p .low), after .clock, early);
-      }
+      gone-last : U ≤ k + 1 → Gone l u o v (k + 1) U 17 c x
+      gone-last end = gone-next (λ m. absurd (omega arith)) (y .wide) (λ h. absurd (omega arith))
 
-      gone-fires : r .fired ≡ true → {w : ℕ} → DatedGives l u (r .node) w → Gone c T (m + 1) u (set o (r .node - 1) w) v 17
-      gone-fires b {w} q = gone-next keeps-next (length-set o (r .node - 1) w ∙ y .wide) (λ x. absurd (omega arith))
-        where
-          shown-next : Shown l u c (tick c now .run)
-          shown-next = record { plans = a .shown .plans; shows = p .shows }
+      module _ (follows : k + 1 < U) (b : r .fired ≡ true) where
+        dated-asks : Dated l u (r .node)
+        dated-asks = record {
+          chain = c;
+          run = tick c now .run;
+          shown = shown-next;
+          sound = y .lends .running .chain .chain;
+          node = p .low;
+          count = omega (arith, after .counts (r .node) (p .low), y .lends .counts (r .node) (p .low));
+        }
 
-          keeps-next : KeepsAll (set o (r .node - 1) w) c (tick c now .run)
-          keeps-next j n = by-cases (ℕ-discrete (suc j) (r .node))
-              (λ x.
-              let here : r .node - 1 ≡ j = omega arith in
-              rw here (getD-set-same o j w 0 (omega (arith, y .wide, a .accepted .chain .count .1)) ∙ q .due shown-next ∙ ap (λ (k : ℕ). datedOf c k (next (tick c now .run) k)) (sym x)))
-              (λ x.
-              let there : j ≢ r .node - 1 = λ e. x (omega (arith, p .some b)) in
-              getD-set-other o (r .node - 1) j w 0 there ∙ kept-as c now (tick c now .run) j (p .others z j (λ e f. x (sym f))) (y .keeps j n))
+        gone-fires : {w : ℕ} → DatedGives l u (r .node) w → Gone l u (set o (r .node - 1) w) v (k + 1) U 17 c x
+        gone-fires {w} q = gone-next keeps-next (length-set o (r .node - 1) w ∙ y .wide) (λ h. absurd (omega arith))
+          where
+            keeps-next : k + 1 < U → (j : ℕ) → j < c .n → getD (set o (r .node - 1) w) j 0 ≡ datedOf c (suc j) (next (tick c now .run) (suc j))
+            keeps-next m j n = by-cases (ℕ-discrete (suc j) (r .node))
+                (λ a.
+                let here : r .node - 1 ≡ j = omega arith in
+                rw here (getD-set-same o j w 0 (omega (arith, y .wide, y .lends .shown .shows .few)) ∙ q .due shown-next ∙ ap (λ (i : ℕ). datedOf c i (next (tick c now .run) i)) (sym a)))
+                (λ a.
+                let there : j ≢ r .node - 1 = λ e. a (omega (arith, p .some b)) in
+                getD-set-other o (r .node - 1) j w 0 there ∙ kept-as c now (tick c now .run) j (p .others z j (λ e f. a (sym f))) (y .keeps more j n (inl m)))
 
--- as the code of a run has it
-module _ {l f d e : List ℕ} {T m : ℕ} {g o h : List ℕ} {i : ℕ} (y : Going l f d e T m g o h i) where
+-- as the code of the ticks has it
+module _ {l f e : List ℕ} {t T : ℕ} {g o h : List ℕ} {k U i : ℕ} (y : Going l f e t T g o h k U i) where
   -- after the last tick
-  pub going-done : T ≤ m → RanGives l f d e T g h (record { kind = 0; tick = m; at = 0 })
+  pub going-done : U ≤ k → RanGives l f e t T g h (allClean k)
   going-done end = record {
-    gives = λ {c} a.
-        let x : Gone c T m g o h i = y .gives a in
-        let is : m ≡ T = omega (arith, x .most) in
-        subst (λ (n : ℕ). RanTo c n g h (record { kind = 0; tick = m; at = 0 })) is
-        (record { outcome = x .clean; clock = x .clock; shows = x .shows; done = x .done; low = omega arith });
+    low = omega arith;
+    gives = λ {c} {s} a.
+        let x : Gone l g o h k U i c (ticks c T s) = y .gives a in
+        subst (λ (q : Ticked). RanTo c q g h (allClean k)) (sym (ticks-none c (x .now)) ∙ ap (λ (n : ℕ). ticks c n (x .now)) (omega arith) ∙ x .rest)
+        (record { outcome = refl; clock = x .lends .clock; shows = x .lends .shown .shows; done = x .lends .done });
   }
 
-  module _ (more : m < T) where
-    pub going-pass : Lends l f d e T → Passes l g o h m i
-    going-pass a = record { chain = a .chain; run = ticks (a .chain) m (freshRun (a .chain)) .run; is = asks-now (a .lends) (y .gives (a .lends)) more }
+  module _ (more : k < U) where
+    pub going-pass : Lends l f e t T → Passes l g o h k i
+    going-pass a = record { chain = a .chain; run = y .gives (a .lends) .now; is = asks-now (y .gives (a .lends)) more }
 
-    module _ {u v : List ℕ} {r : Passed} (p : PassGives l g o h m i u v r) where
-      passed : {c : Chain} → LendsIn l f d e T c → PassTo c (ticks c m (freshRun c) .run) u v r
-      passed a = p .gives (asks-now a (y .gives a) more)
+    module _ {u v : List ℕ} {r : Passed} (p : PassGives l g o h k i u v r) where
+      passed : {c : Chain} {s : Run} (a : LendsIn l f e t T c s) → PassTo c (y .gives a .now) u v r
+      passed a = p .gives (asks-now (y .gives a) more)
 
-      pub going-ends : r .kind ≢ 0 → RanGives l f d e T u v (record { kind = r .kind; tick = r .tick; at = r .node })
-      going-ends n = record { gives = λ a. ends-now a (y .gives a) more (passed a) n }
+      node-low : Lends l f e t T → r .node ≤ 16
+      node-low a = let q = passed (a .lends) in omega (arith, q .low, q .shows .few)
+
+      pub going-ends : r .kind ≢ 0 → Lends l f e t T → RanGives l f e t T u v (endedBy r)
+      going-ends n a = record { low = node-low a; gives = λ b. ends-now (y .gives b) more (passed b) n }
 
       module _ (z : r .kind ≡ 0) where
-        pub going-rests : r .fired ≡ false → Going l f d e T (m + 1) u o v (r .node)
-        going-rests n = record { gives = λ a. gone-rests a (y .gives a) more (passed a) z n }
+        pub going-rests : r .fired ≡ false → Going l f e t T u o v (k + 1) U (r .node)
+        going-rests n = record { gives = λ a. gone-rests (y .gives a) more (passed a) z n }
 
+        pub going-last : U ≤ k + 1 → Going l f e t T u o v (k + 1) U 17
+        going-last end = record { gives = λ a. gone-last (y .gives a) more (passed a) z end }
+
+        -- the deadline of the node that fired, and where it is kept
         module _ (b : r .fired ≡ true) where
-          -- the deadline of the node that fired, and where it is kept
-          pub going-dates : Lends l f d e T → Dated l u (r .node)
-          going-dates a = dated-asks (a .lends) (y .gives (a .lends)) more (passed (a .lends)) z b
+          pub going-slot : Lends l f e t T → (0 < r .node) × (r .node ≤ 16)
+          going-slot a = (passed (a .lends) .some b, node-low a)
 
-          pub going-slot : Lends l f d e T → (0 < r .node) × (r .node ≤ 16)
-          going-slot a = let q = passed (a .lends) in (q .some b, omega (arith, q .low, a .lends .accepted .chain .count .1))
+          module _ (follows : k + 1 < U) where
+            pub going-dates : Lends l f e t T → Dated l u (r .node)
+            going-dates a = dated-asks (y .gives (a .lends)) more (passed (a .lends)) z follows b
 
-          pub going-fires : {w : ℕ} → DatedGives l u (r .node) w → Going l f d e T (m + 1) u (set o (r .node - 1) w) v 17
-          going-fires q = record { gives = λ a. gone-fires a (y .gives a) more (passed a) z b q }
+            pub going-fires : {w : ℕ} → DatedGives l u (r .node) w → Going l f e t T u (set o (r .node - 1) w) v (k + 1) U 17
+            going-fires q = record { gives = λ a. gone-fires (y .gives a) more (passed a) z follows b q }

@@ -1,64 +1,48 @@
--- What the code of a tick and of a deadline run asks and gives.
---   TickAsk c l s            no check refuses the tick, and l is the chain's plan
---   RunAsk c l T             no check refuses the run
---   KeepsAll d c s           the deadline of every node's next firing is kept
---   LendsIn, Lends           a fresh start is lent, and its deadlines
---   RanTo, RanGives          what the ticks of a run make of it
+-- What the code of the ticks asks and gives, of a tick and of a deadline run alike.
+--   LendsIn l f e t T c s    the plan l, the flow f and the work done e show the state s of the chain c, which passes 17, at its clock t, and T ticks can be made of it
+--   Lends                    there is such a state, and every count can grow
+--   RanTo c x g h r          the flow g, the work done h and the answer r show x, what ticks leave
+--   RanGives l f e t T g h r they show what T ticks leave of every such state
 use mathlib.Core.Path.{_≡_}
 use mathlib.Core.List.{List}
-use Prim.Native.Nat.{ℕ, suc, _≤_, _<_}
-use lib.ListN.{length, getD}
+use Prim.Native.Nat.{ℕ, _+_, _≤_, _<_}
 use Rattle.chain.specs.declared.Chain.{Chain}
-use Rattle.sizing.specs.Accepted.{Accepted}
-use Rattle.state.specs.State.{freshRun}
-use Rattle.state.specs.Checks.{Planned}
+use Rattle.sizing.specs.Checks.{limit}
+use Rattle.state.specs.State.{countAt}
 use Rattle.state.specs.declared.Run.{Run}
 use Rattle.flow.specs.Flow.{Shows}
-use Rattle.deadline.specs.Question.{datedOf}
 use Rattle.deadline.specs.Dues.{Shown}
-use Rattle.instants.specs.Steps.{next, ticks}
+use Rattle.instants.specs.Steps.{ticks}
 use Rattle.instants.specs.Checks.{longest}
-use Rattle.instants.specs.Refusals.{Ticking}
+use Rattle.instants.specs.Kept.{Running}
+use Rattle.instants.specs.declared.Ticked.{Ticked}
 use Rattle.steps.specs.Lent.{outcomeAs}
 use Rattle.ticks.specs.declared.Ended.{Ended}
 
--- no check refuses the tick
-pub record TickAsk (c : Chain) (l : List ℕ) (s : Run) : Type 0 where
-  pub plan : Planned c l
-  pub ticking : Ticking c s
+-- a state that passes 17 is lent at its clock t; T ticks are no longer than the longest run, and no count passes the limit in them
+pub record LendsIn (l f e : List ℕ) (t T : ℕ) (c : Chain) (s : Run) : Type 0 where
+  pub shown : Shown l f c s
+  pub running : Running c s
+  pub clock : s .clock ≡ t
+  pub done : e ≡ s .done
+  pub long : t + T ≤ longest
+  pub counts : (i : ℕ) → i ≤ c .n → countAt s i + T ≤ limit
 
--- no check refuses the run
-pub record RunAsk (c : Chain) (l : List ℕ) (T : ℕ) : Type 0 where
-  pub plan : Planned c l
-  pub accepted : Accepted c
-  pub long : T ≤ longest
-
--- the deadline of every node's next firing is kept
-abbrev pub KeepsAll : List ℕ → Chain → Run → Type 0
-KeepsAll d c s = (j : ℕ) → j < c .n → getD d j 0 ≡ datedOf c (suc j) (next s (suc j))
-
--- a fresh start of a chain is lent, with its deadlines
-pub record LendsIn (l f d e : List ℕ) (T : ℕ) (c : Chain) : Type 0 where
-  pub accepted : Accepted c
-  pub shown : Shown l f c (freshRun c)
-  pub keeps : KeepsAll d c (freshRun c)
-  pub wide : length d ≡ 16
-  pub done : e ≡ freshRun c .done
-  pub long : T ≤ longest
-
--- there is such a chain
-pub record Lends (l f d e : List ℕ) (T : ℕ) : Type 0 where
+-- there is such a state, and every count can grow
+pub record Lends (l f e : List ℕ) (t T : ℕ) : Type 0 where
   pub chain : Chain
-  pub lends : LendsIn l f d e T chain
+  pub run : Run
+  pub lends : LendsIn l f e t T chain run
+  pub counts : (i : ℕ) → i ≤ chain .n → countAt run i < limit
 
--- what T ticks make of it
-pub record RanTo (c : Chain) (T : ℕ) (g h : List ℕ) (r : Ended) : Type 0 where
-  pub outcome : ticks c T (freshRun c) .outcome ≡ outcomeAs (r .kind) (r .tick) (r .at)
-  pub clock : ticks c T (freshRun c) .run .clock ≡ r .tick
-  pub shows : Shows g c (ticks c T (freshRun c) .run)
-  pub done : h ≡ ticks c T (freshRun c) .run .done
-  pub low : r .at ≤ c .n
+-- the flow g, the work done h and the answer r show what ticks leave
+pub record RanTo (c : Chain) (x : Ticked) (g h : List ℕ) (r : Ended) : Type 0 where
+  pub outcome : x .outcome ≡ outcomeAs (r .kind) (r .tick) (r .at)
+  pub clock : x .run .clock ≡ r .tick
+  pub shows : Shows g c (x .run)
+  pub done : h ≡ x .run .done
 
--- of every such chain
-pub record RanGives (l f d e : List ℕ) (T : ℕ) (g h : List ℕ) (r : Ended) : Type 0 where
-  pub gives : {c : Chain} → LendsIn l f d e T c → RanTo c T g h r
+-- they show what T ticks leave of every such state
+pub record RanGives (l f e : List ℕ) (t T : ℕ) (g h : List ℕ) (r : Ended) : Type 0 where
+  pub low : r .at ≤ 16
+  pub gives : {c : Chain} {s : Run} → LendsIn l f e t T c s → RanTo c (ticks c T s) g h r

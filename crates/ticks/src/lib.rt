@@ -5,12 +5,9 @@ ghost use Prim.Native.Nat.{_≤_};
 ghost use Rattle.chain.specs.Refusals.{orElse};
 ghost use Rattle.chain.specs.Faults.{Few};
 ghost use Rattle.instants.specs.Checks.{clockCheck, spentCheck, tickAnswer, deadlineRunAnswer};
-ghost use Rattle.instants.specs.Steps.{tick, ticks};
-ghost use Rattle.instants.specs.Refusals.{ranAs};
-ghost use Rattle.state.specs.State.{freshRun};
 ghost use Rattle.steps.specs.Lent.{outcomeAs};
 ghost use Rattle.ticks.specs.Left.{refusedWith, leftBy};
-ghost use Rattle.ticks.specs.Runs.{TickAsk, RunAsk, Lends, RanGives};
+ghost use Rattle.ticks.specs.Runs.{Lends, RanGives};
 use chain::Chain;
 use chain::Refusal;
 use flow::LENGTH;
@@ -28,7 +25,7 @@ const LONGEST: u32 = 1000000;
 // The largest number that a count can be.
 const LIMIT: u32 = 4294967295;
 
-// How a run ended, the clock that it left, and the queue that overflowed or the node without a deadline.
+// How ticks ended, the clock that they left, and the queue that overflowed or the node without a deadline.
 pub struct Ended {
     kind: u32,
     tick: u32,
@@ -53,7 +50,10 @@ pub fn tick(chain: Chain, run: Run) -> TickAnswer
     if late.number != 0 {
         return refused(late.number, late.place, run);
     }
-    ticked(chain, &plan, run)
+    let mut flow = flow::showing(chain, run);
+    let mut done = run.done;
+    let ended = passes(&plan, &mut flow, &mut done, run.clock, 1);
+    left(&flow, done, ended)
 }
 
 // A deadline run of so many ticks from a fresh start: how it ended and the state that it left, or the first of 2, 4, 5, 6,
@@ -69,7 +69,10 @@ pub fn deadline_run(chain: Chain, ticks: u32) -> TickAnswer
     if LONGEST < ticks {
         return refused(9, 0, state::EMPTY);
     }
-    ran(chain, plan, ticks)
+    let mut flow = flow::started(chain);
+    let mut done = [0; 16];
+    let ended = passes(&plan, &mut flow, &mut done, 0, ticks);
+    left(&flow, done, ended)
 }
 
 // The answer of a refused call: the refusal, with the state that the call gives then.
@@ -109,45 +112,24 @@ fn late_check(chain: Chain, run: Run) -> Refusal
     chain::FINE
 }
 
-// One tick of a state that no check refuses.
-fn ticked(chain: Chain, plan: &[u32; PLAN], run: Run) -> TickAnswer
-    requires { ⌜ TickAsk chain (now plan) run ⌝ }
-    ensures { λ r. ⌜ r ≡ ranAs (tick chain run) ⌝ }
-{
-    let mut flow = flow::showing(chain, run);
-    let due = steps::dues(plan, &flow, false);
-    let mut done = run.done;
-    let passed = steps::pass(plan, &mut flow, &due, &mut done, run.clock, STALE);
-    left(&flow, done, passed.kind, passed.tick, passed.node)
-}
-
-// A run that no check refuses.
-fn ran(chain: Chain, plan: [u32; PLAN], length: u32) -> TickAnswer
-    requires { ⌜ RunAsk chain plan length ⌝ }
-    ensures { λ r. ⌜ r ≡ ranAs (ticks chain length (freshRun chain)) ⌝ }
-{
-    let mut flow = flow::started(chain);
-    let mut due = steps::dues(&plan, &flow, true);
-    let mut done = [0; 16];
-    let ended = passes(&plan, &mut flow, &mut due, &mut done, length);
-    left(&flow, done, ended.kind, ended.tick, ended.at)
-}
-
-// Tick after tick, up to the first outcome that is not clean.
+// So many ticks of the state that is lent, from its clock on, up to the first outcome that is not clean. A single tick looks
+// at few deadlines. After the last no deadline is made, since the node that fired may have no next firing.
 fn passes(
     plan: &[u32; PLAN],
     flow: &mut [u32; LENGTH],
-    due: &mut [u64; 16],
     done: &mut [u32; 16],
+    start: u32,
     length: u32,
 ) -> Ended
-    requires { ⌜ Lends (now plan) (now flow) (now due) (now done) length ⌝ }
-    ensures { λ r. ⌜ RanGives (now (plan .entry)) (now (flow .entry)) (now (due .entry)) (now (done .entry)) length (now (flow .exit)) (now (done .exit)) r ⌝ }
+    requires { ⌜ Lends (now plan) (now flow) (now done) start length ⌝ }
+    ensures { λ r. ⌜ RanGives (now (plan .entry)) (now (flow .entry)) (now (done .entry)) start length (now (flow .exit)) (now (done .exit)) r ⌝ }
 {
-    let mut clock = 0;
+    let until = start + length;
+    let mut due = steps::dues(plan, flow, 1 < length);
+    let mut clock = start;
     let mut node = STALE;
-    while clock < length {
-        let passed = steps::pass(plan, flow, due, done, clock, node);
+    while clock < until {
+        let passed = steps::pass(plan, flow, &due, done, clock, node);
         node = passed.node;
         if passed.kind != CLEAN {
             return Ended {
@@ -156,11 +138,13 @@ fn passes(
                 at: node,
             };
         }
+        clock += 1;
         if passed.fired {
-            due[node - 1] = deadline::dated(plan, flow, node);
+            if clock < until {
+                due[node - 1] = deadline::dated(plan, flow, node);
+            }
             node = STALE;
         }
-        clock += 1;
     }
     Ended {
         kind: CLEAN,
@@ -169,18 +153,18 @@ fn passes(
     }
 }
 
-// What is left: the outcome of this code, at this tick, and the state that the flow shows, with its clock and work done.
-fn left(flow: &[u32; LENGTH], done: [u32; 16], kind: u32, tick: u32, at: usize) -> TickAnswer
-    requires { ⌜ at ≤ 16 ⌝ }
-    ensures { λ r. ⌜ r ≡ leftBy (now (flow .entry)) done kind tick at ⌝ }
+// What is left where ticks ended so: the outcome, and the state that the flow shows, with the clock and the work done.
+fn left(flow: &[u32; LENGTH], done: [u32; 16], ended: Ended) -> TickAnswer
+    requires { ⌜ ended .at ≤ 16 ⌝ }
+    ensures { λ r. ⌜ r ≡ leftBy (now (flow .entry)) done ended ⌝ }
 {
     let mut run = flow::shown(flow);
-    run.clock = tick;
+    run.clock = ended.tick;
     run.done = done;
     TickAnswer {
         number: 0,
         place: 0,
-        outcome: outcome(kind, tick, at as u32),
+        outcome: outcome(ended.kind, ended.tick, ended.at as u32),
         run: run,
     }
 }

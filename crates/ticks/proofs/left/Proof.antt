@@ -13,7 +13,7 @@ outcome-requires : tie.Need-outcome-requires
 outcome-requires c κs = search needs
 
 returns : tie.Need-returns
-returns c = rw (c .outcome .ensures, c .before .shown .ensures)
+returns c = rw (c .outcome .ensures, c .before .before .shown .ensures)
 
 pub left-spec : {M : Type 1} → statement M
 left-spec = tie.close (tie.spec shown-requires cast-outcome outcome-requires returns)

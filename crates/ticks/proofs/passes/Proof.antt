@@ -1,52 +1,64 @@
--- `ticks::passes` meets its contract: before the m-th tick all before it were clean, and what is lent shows where they led (`Going`).
-use mathlib.Core.Logic.{⊎-elim}
+-- `ticks::passes` meets its contract: before each tick a state is lent whose ticks up to the end leave what all of them leave (`Going`).
 use Prim.Native.Nat.{_-_}
 use native.Mathlib.Omega.{arith}
 use borrow.Author.Needs.{needs}
-use Rattle.ticks.specs.Passes.{Going, going-none, going-pass, going-ends, going-rests, going-dates, going-slot, going-fires, going-done}
+use Rattle.ticks.specs.Passes.{Going, going-stand, going-none, going-pass, going-ends, going-rests, going-dates, going-slot, going-fires, going-last, going-done}
 use Rattle.ticks.proofs.passes.Statement.{statement}
 use Rattle.ticks.proofs.passes.Tie as tie
 
 abbrev Inv-loop : tie.InvT-loop
-Inv-loop plan flow₀ due₀ done₀ length clock₀ node₀ flow due done clock node = Going plan flow₀ due₀ done₀ length clock flow due done node
+Inv-loop plan flow₀ done₀ start length until due₀ clock₀ node₀ flow done due clock node = Going plan flow₀ done₀ start length flow due done clock until node
 
 abbrev μ-loop : tie.MeasureT-loop
-μ-loop plan flow₀ due₀ done₀ length clock₀ node₀ flow due done clock node = length - clock
+μ-loop plan flow₀ done₀ start length until due₀ clock₀ node₀ flow done due clock node = until - clock
+
+add-until : tie.Need-add-until Inv-loop μ-loop
+add-until c = omega (arith, c .pre .lends .long)
+
+dues-requires : tie.Need-dues-requires Inv-loop μ-loop
+dues-requires c κs = going-stand (c .before .pre)
 
 loop-holds : tie.Need-loop-holds Inv-loop μ-loop
-loop-holds c = going-none _ _ _ _ _
+loop-holds c = going-none (c .dues .ensures) (search needs)
 
 pass-requires : tie.Need-pass-requires Inv-loop μ-loop
-pass-requires c κs = going-pass (c .before .before .before .before .loop .inv) (c .before .before .before .loop-test .taken) (c .before .before .before .before .before .pre)
+pass-requires c κs = going-pass (c .before .before .before .before .loop .inv) (c .before .before .before .loop-test .taken) (c .before .before .before .before .before .before .before .pre)
 
 returns : tie.Need-returns Inv-loop μ-loop
-returns c = going-ends (c .before .before .before .before .before .before .before .loop .inv) (c .before .before .before .before .before .before .loop-test .taken) (c .before .before .pass .ensures) (c .if1 .taken)
-
-dated-requires : tie.Need-dated-requires Inv-loop μ-loop
-dated-requires c κs = going-dates (c .before .before .before .before .before .before .before .before .before .loop .inv) (c .before .before .before .before .before .before .before .before .loop-test .taken) (c .before .before .before .before .pass .ensures) (c .before .before .if1 .left) (c .before .if2 .taken) (c .before .before .before .before .before .before .before .before .before .before .pre)
-
-sub-due : tie.Need-sub-due Inv-loop μ-loop
-sub-due c = let slot = going-slot (c .before .before .before .before .before .before .before .before .before .before .loop .inv) (c .before .before .before .before .before .before .before .before .before .loop-test .taken) (c .before .before .before .before .before .pass .ensures) (c .before .before .before .if1 .left) (c .before .before .if2 .taken) (c .before .before .before .before .before .before .before .before .before .before .before .pre) in slot .0
-
-mul-due : tie.Need-mul-due Inv-loop μ-loop
-mul-due c = let slot = going-slot (c .before .before .before .before .before .before .before .before .before .before .loop .inv) (c .before .before .before .before .before .before .before .before .before .loop-test .taken) (c .before .before .before .before .before .pass .ensures) (c .before .before .before .if1 .left) (c .before .before .if2 .taken) (c .before .before .before .before .before .before .before .before .before .before .before .pre) in record { fits = omega (arith, slot .1) }
-
-element-write-due : tie.Need-element-write-due Inv-loop μ-loop
-element-write-due c = let slot = going-slot (c .before .before .before .before .before .before .before .before .before .before .loop .inv) (c .before .before .before .before .before .before .before .before .before .loop-test .taken) (c .before .before .before .before .before .pass .ensures) (c .before .before .before .if1 .left) (c .before .before .if2 .taken) (c .before .before .before .before .before .before .before .before .before .before .before .pre) in omega (arith, slot .0, slot .1)
+returns c = going-ends (c .before .before .before .before .before .before .before .loop .inv) (c .before .before .before .before .before .before .loop-test .taken) (c .before .before .pass .ensures) (c .if1 .taken) (c .before .before .before .before .before .before .before .before .before .before .pre)
 
 add-clock : tie.Need-add-clock Inv-loop μ-loop
 add-clock c = search needs
+
+dated-requires : tie.Need-dated-requires Inv-loop μ-loop
+dated-requires c κs = going-dates (c .before .before .before .before .before .before .before .before .before .before .loop .inv) (c .before .before .before .before .before .before .before .before .before .loop-test .taken) (c .before .before .before .before .before .pass .ensures) (c .before .before .before .if1 .left) (c .before .before .if2 .taken) (c .before .if3 .taken) (c .before .before .before .before .before .before .before .before .before .before .before .before .before .pre)
+
+sub-due : tie.Need-sub-due Inv-loop μ-loop
+sub-due c = let slot = going-slot (c .before .before .before .before .before .before .before .before .before .before .before .loop .inv) (c .before .before .before .before .before .before .before .before .before .before .loop-test .taken) (c .before .before .before .before .before .before .pass .ensures) (c .before .before .before .before .if1 .left) (c .before .before .before .if2 .taken) (c .before .before .before .before .before .before .before .before .before .before .before .before .before .before .pre) in slot .0
+
+mul-due : tie.Need-mul-due Inv-loop μ-loop
+mul-due c = let slot = going-slot (c .before .before .before .before .before .before .before .before .before .before .before .loop .inv) (c .before .before .before .before .before .before .before .before .before .before .loop-test .taken) (c .before .before .before .before .before .before .pass .ensures) (c .before .before .before .before .if1 .left) (c .before .before .before .if2 .taken) (c .before .before .before .before .before .before .before .before .before .before .before .before .before .before .pre) in record { fits = omega (arith, slot .1) }
+
+array-write-due : tie.Need-array-write-due Inv-loop μ-loop
+array-write-due c = let slot = going-slot (c .before .before .before .before .before .before .before .before .before .before .before .loop .inv) (c .before .before .before .before .before .before .before .before .before .before .loop-test .taken) (c .before .before .before .before .before .before .pass .ensures) (c .before .before .before .before .if1 .left) (c .before .before .before .if2 .taken) (c .before .before .before .before .before .before .before .before .before .before .before .before .before .before .pre) in omega (arith, slot .0, slot .1)
 
 loop-less : tie.Need-loop-less Inv-loop μ-loop
 loop-less c = search needs
 
 loop-again : tie.Need-loop-again Inv-loop μ-loop
-loop-again c =
-    let inv = c .before .before .before .before .before .before .before .before .loop .inv in
-    let test = c .before .before .before .before .before .before .before .loop-test .taken in
-    let pass = c .before .before .before .pass .ensures in
-    let clean = c .before .if1 .left in
-    ⊎-elim (λ w. rw (w .3, w .4) (going-fires inv test pass clean (w .0 .taken) (w .2 .ensures))) (λ w. rw (w .1, w .2) (going-rests inv test pass clean (w .0 .left))) (c .if2 .came)
+loop-again c = going-fires (c .before .before .before .before .before .before .before .before .before .before .before .loop .inv) (c .before .before .before .before .before .before .before .before .before .before .loop-test .taken) (c .before .before .before .before .before .before .pass .ensures) (c .before .before .before .before .if1 .left) (c .before .before .before .if2 .taken) (c .before .before .if3 .taken) (c .dated .ensures)
+
+loop-less-2 : tie.Need-loop-less-2 Inv-loop μ-loop
+loop-less-2 c = search needs
+
+loop-again-2 : tie.Need-loop-again-2 Inv-loop μ-loop
+loop-again-2 c = going-last (c .before .before .before .before .before .before .before .before .before .loop .inv) (c .before .before .before .before .before .before .before .before .loop-test .taken) (c .before .before .before .before .pass .ensures) (c .before .before .if1 .left) (c .if3 .left)
+
+loop-less-3 : tie.Need-loop-less-3 Inv-loop μ-loop
+loop-less-3 c = search needs
+
+loop-again-3 : tie.Need-loop-again-3 Inv-loop μ-loop
+loop-again-3 c = going-rests (c .before .before .before .before .before .before .before .before .loop .inv) (c .before .before .before .before .before .before .before .loop-test .taken) (c .before .before .before .pass .ensures) (c .before .if1 .left) (c .if2 .left)
 
 returns-2 : tie.Need-returns-2 Inv-loop μ-loop
 returns-2 c = going-done (c .before .loop .inv) (c .loop-test .left)
@@ -57,14 +69,20 @@ passes-spec =
     (tie.spec
     Inv-loop
     μ-loop
+    add-until
+    dues-requires
     loop-holds
     pass-requires
     returns
+    add-clock
     dated-requires
     sub-due
     mul-due
-    element-write-due
-    add-clock
+    array-write-due
     loop-less
     loop-again
+    loop-less-2
+    loop-again-2
+    loop-less-3
+    loop-again-3
     returns-2)

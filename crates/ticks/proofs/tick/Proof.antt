@@ -2,7 +2,7 @@
 use borrow.Author.Needs.{needs}
 use mathlib.Core.Path.{_∙_}
 use Rattle.state.specs.Checks.{state-lent, planned-run}
-use Rattle.ticks.proofs.Answers.{few, tick-chain-refuses, tick-state-refuses, tick-late, tick-asks, tick-answers}
+use Rattle.ticks.proofs.Answers.{few, tick-chain-refuses, tick-state-refuses, tick-late, tick-lends, tick-answers}
 use Rattle.ticks.proofs.tick.Statement.{statement}
 use Rattle.ticks.proofs.tick.Tie as tie
 
@@ -40,19 +40,25 @@ returns-3 c =
     let chain = state .before .before .before .before .before .before .before .before in
     c .refused3 .ensures ∙ tick-late _ _ (chain .planned-for-run .ensures) (state .before .before .before .before .before .before .if1 .left) (state .state-check .ensures ∙ state-lent _ (chain .before .before .args .t2)) (late .before .if2 .left) (late .late-check .ensures) (c .before .if3 .taken)
 
-ticked-requires : tie.Need-ticked-requires
-ticked-requires c κs =
-    let late = c .before .before .before in
+showing-requires : tie.Need-showing-requires
+showing-requires c κs = planned-run (c .before .before .before .before .before .before .before .before .before .before .before .before .before .planned-for-run .ensures) (c .before .before .before .before .before .before .before .before .before .before .before .if1 .left) .chain
+
+passes-requires : tie.Need-passes-requires
+passes-requires c κs =
+    let late = c .before .before .before .before .before .before .before in
     let state = late .before .before .before in
     let chain = state .before .before .before .before .before .before .before .before in
-    tick-asks _ _ (chain .planned-for-run .ensures) (state .before .before .before .before .before .before .if1 .left) (state .state-check .ensures ∙ state-lent _ (chain .before .before .args .t2)) (late .before .if2 .left) (late .late-check .ensures) (c .before .if3 .left)
+    tick-lends _ _ (chain .planned-for-run .ensures) (state .before .before .before .before .before .before .if1 .left) (state .state-check .ensures ∙ state-lent _ (chain .before .before .args .t2)) (late .before .if2 .left) (late .late-check .ensures) (c .before .before .before .before .before .if3 .left) (c .before .before .before .before .showing .ensures)
+
+left-requires : tie.Need-left-requires
+left-requires c κs = c .before .passes .ensures .low
 
 returns-4 : tie.Need-returns-4
 returns-4 c =
-    let late = c .before .before .before .before in
+    let late = c .before .before .before .before .before .before .before .before .before .before in
     let state = late .before .before .before in
     let chain = state .before .before .before .before .before .before .before .before in
-    tick-answers _ _ (chain .planned-for-run .ensures) (state .before .before .before .before .before .before .if1 .left) (state .state-check .ensures ∙ state-lent _ (chain .before .before .args .t2)) (late .before .if2 .left) (late .late-check .ensures) (c .before .before .if3 .left) (c .ticked .ensures)
+    c .left .ensures ∙ tick-answers _ _ (chain .planned-for-run .ensures) (state .before .before .before .before .before .before .if1 .left) (state .state-check .ensures ∙ state-lent _ (chain .before .before .args .t2)) (late .before .if2 .left) (late .late-check .ensures) (c .before .before .before .before .before .before .before .before .if3 .left) (c .before .before .before .before .before .before .before .showing .ensures) (c .before .before .passes .ensures)
 
 pub tick-spec : {M : Type 1} → statement M
 tick-spec =
@@ -67,5 +73,7 @@ tick-spec =
     late-check-requires
     refused-requires-3
     returns-3
-    ticked-requires
+    showing-requires
+    passes-requires
+    left-requires
     returns-4)
