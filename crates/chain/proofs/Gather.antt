@@ -1,19 +1,21 @@
 -- A loop that looks at the rows of both tables one by one and keeps what is refused of them.
 use mathlib.Core.Path.{_≡_, refl, sym, ap, _∙_}
-use mathlib.Core.Bool.{Bool, false, not}
+use mathlib.Core.Bool.{Bool, true, false, not}
 use mathlib.Core.List.{List, [], _∷_, map}
-use Prim.Native.Nat.{ℕ, _+_, _*_, _≤_, _<_, zero-le}
+use Prim.Native.Nat.{ℕ, _+_, _*_, _≤_, _<_}
 use native.Mathlib.Omega.{arith}
 use lib.Dec.{ltb}
 use borrow.Author.Tests.{not-false}
-use Rattle.words.specs.Table.{tab, tab-more, tab-alike}
+use Rattle.words.specs.Table.{tab, tab-more, below-next}
 use Rattle.words.specs.declared.Queue.{Queue}
 use Rattle.chain.specs.Tests.{outside, In, outside-false, below-false}
-use Rattle.chain.specs.Refusals.{fine, test, first, orElse, first-fine, first-append, first-last, test-alone}
-use Rattle.chain.specs.Checks.{outOfRange, rowFields, overdrawn}
+use Rattle.chain.specs.Refusals.{fine, test, first, orElse, Silent, first-fine, first-append, first-last, test-alone, all-silent}
+use Rattle.chain.specs.Record.{rowOf, workOf}
+use Rattle.chain.specs.Checks.{ticks, outOfRange, rowFields, overdrawn, field-silent}
 use Rattle.chain.specs.Sound.{rowRange, nodeRange, SoundRow, row-sound}
-use Rattle.chain.specs.Faults.{fineRow, fine-row, noFaults, withRow, faultsOf}
+use Rattle.chain.specs.Faults.{fineRow, fine-row, AllFine, FineRows, noFaults, withRow, faultsOf}
 use Rattle.chain.specs.declared.Refusal.{Refusal}
+use Rattle.chain.specs.declared.Chain.{Chain}
 use Rattle.chain.specs.declared.checks.Faults.{Faults}
 
 -- before row i, whose parts stand at `at` and `to`, the faults are those of the rows before it
@@ -38,10 +40,33 @@ range-fine q at s = first-fine (map outOfRange (rowFields q at)) (row-sound q at
 pub same-faults : {f g : Faults} → f .rows ≡ g .rows → f .nodes ≡ g .nodes → f .order ≡ g .order → f ≡ g
 same-faults a b c = λ i. record { rows = a i; nodes = b i; order = c i }
 
+-- nothing is refused of rows that are fine
+fine-faults : (row : ℕ → Queue) (e : ℕ → ℕ) (q w k : ℕ) → AllFine row e k → noFaults ≡ faultsOf row e q w k
+fine-faults row e q w k h = same-faults
+    (none (λ j. rowRange (row j) (q + 20 * j)) (λ j l. row-sound (row j) (q + 20 * j) .1 (fits j l .0) .0))
+    (none (λ j. nodeRange (e j) (w + 4 * j)) (λ j l. field-silent (ticks (w + 4 * j) (e j)) .1 (fits j l .1)))
+    (none (λ j. overdrawn (row j) (q + 20 * j)) (λ j l. row-sound (row j) (q + 20 * j) .1 (fits j l .0) .1))
+  where
+    fits : (j : ℕ) → j < k → SoundRow (row j) × In 1 1000000 (e j)
+    fits j l = fine-row (row j) (e j) .0 (h j l)
+
+    none : (g : ℕ → Refusal) → ((j : ℕ) → j < k → Silent (g j)) → fine ≡ first (tab k g)
+    none g s = sym (first-fine (tab k g) (all-silent g k .1 s))
+
+pub none-refused : (c : Chain) (q w : ℕ) {k : ℕ} → FineRows c k → c .n ≤ k → noFaults ≡ faultsOf (rowOf c) (workOf c) q w (c .n)
+none-refused c q w s l = fine-faults (rowOf c) (workOf c) q w (c .n) (λ j m. s .fine j (omega arith))
+
+-- a loop that passes fine rows: none yet, and one more
+pub fine-none : (row : ℕ → Queue) (e : ℕ → ℕ) → AllFine row e 0
+fine-none row e j l = absurd (omega arith)
+
+pub fine-more : (row : ℕ → Queue) (e : ℕ → ℕ) (k : ℕ) → AllFine row e k → fineRow (row k) (e k) ≡ true → AllFine row e (k + 1)
+fine-more row e k h t = below-next {P = λ j. fineRow (row j) (e j) ≡ true} k t h
+
 module _ (row : ℕ → Queue) (e : ℕ → ℕ) (n q w : ℕ) where
-  pub gather-none : Gathered row e n q w 0 q w noFaults
-  unfolding first tab
-  gather-none = record { within = zero-le; queue = omega arith; node = omega arith; faults = refl }
+  -- the rows before the first that is looked at are fine
+  pub gather-start : (k : ℕ) → k ≤ n → AllFine row e k → Gathered row e n q w k (q + 20 * k) (w + 4 * k) noFaults
+  gather-start k l h = record { within = l; queue = refl; node = refl; faults = fine-faults row e q w k h }
 
   one-more : (i : ℕ) → withRow (faultsOf row e q w i) (row i) (q + 20 * i) (e i) (w + 4 * i) ≡ faultsOf row e q w (i + 1)
   unfolding rowRange first
@@ -72,10 +97,3 @@ module _ (row : ℕ → Queue) (e : ℕ → ℕ) (n q w : ℕ) where
 
   pub gather-end : {f : Faults} {i at to : ℕ} → Gathered row e n q w i at to f → n ≤ i → f ≡ faultsOf row e q w n
   gather-end {f} {i} s l = let k : n ≡ i = omega (arith, s .within) in rw k (s .faults)
-
--- rows that are the same have the same faults
-pub faults-alike : (row row′ : ℕ → Queue) (e e′ : ℕ → ℕ) (n q w : ℕ) → ((i : ℕ) → i < n → row i ≡ row′ i) → ((i : ℕ) → i < n → e i ≡ e′ i) → faultsOf row e q w n ≡ faultsOf row′ e′ q w n
-faults-alike row row′ e e′ n q w h k = same-faults
-    (ap first (tab-alike n _ _ (λ i l. ap (λ (r : Queue). rowRange r (q + 20 * i)) (h i l))))
-    (ap first (tab-alike n _ _ (λ i l. ap (λ (v : ℕ). nodeRange v (w + 4 * i)) (k i l))))
-    (ap first (tab-alike n _ _ (λ i l. ap (λ (r : Queue). overdrawn r (q + 20 * i)) (h i l))))

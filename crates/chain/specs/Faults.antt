@@ -1,15 +1,17 @@
 -- Checks 4 and 5 in one pass over the rows, which keeps the first fault of each kind.
 --   fineRow q e, fine-row           the one test of a queue row and its node row, which holds exactly where both are sound
+--   AllFine row e k                 the first k rows pass it
 --   noFaults, withRow f q at e to   no row looked at yet, and one more: a queue row at `at` and its node row at `to`
 --   faultsOf row e q w i            what is refused of the first i rows
 --   settled y f                     4 of the period and of the rows, then 5
 --   settled-is                      which is what the two checks say
---   Few n, RowPlace at              what the code of the pass asks: few rows, at places of a file
+--   Few n, FineRows c k, TablesAt n q w, RowPlace at
+--                                   what the code of the pass asks: few rows, the first k of them fine, at places of a file
 use mathlib.Core.Path.{_≡_, sym, ap₂}
 use mathlib.Core.Bool.{Bool, true, _&&_}
 use mathlib.Core.Logic.{_↔_, Iff·trans}
 use mathlib.Core.List.{[], _∷_}
-use Prim.Native.Nat.{ℕ, _+_, _*_, _≤_}
+use Prim.Native.Nat.{ℕ, _+_, _*_, _≤_, _<_}
 use native.Mathlib.Omega.{arith}
 use lib.Dec.{leb, eqb}
 use Rattle.words.specs.Table.{tab}
@@ -43,6 +45,10 @@ fine-row q e = Iff·trans
       λ (s, k). (((((((s .produce, s .threshold .1), s .consume .0), s .order), s .capacity), s .reserved), k .0), k .1),
     )
 
+-- nothing is refused of the first k rows
+abbrev pub AllFine : (ℕ → Queue) → (ℕ → ℕ) → ℕ → Type 0
+AllFine row e k = (j : ℕ) → j < k → fineRow (row j) (e j) ≡ true
+
 -- what is refused of the rows looked at so far: nothing yet, and with one row more, whose parts stand at `at` and `to`
 abbrev pub noFaults : Faults
 noFaults = record { rows = fine; nodes = fine; order = fine }
@@ -65,6 +71,17 @@ settled-is c q w = ap₂ orElse (sym (range-parts c q w)) (sym (first-last (tab 
 -- at most as many queues as a record has slots
 pub record Few (n : ℕ) : Type 0 where
   pub few : n ≤ 16
+
+-- a chain of few queues, of which the first k are fine
+pub record FineRows (c : Chain) (k : ℕ) : Type 0 where
+  pub few : c .n ≤ 16
+  pub within : k ≤ c .n
+  pub fine : AllFine (rowOf c) (workOf c) k
+
+-- tables of n rows that stand in a file at q and w
+pub record TablesAt (n q w : ℕ) : Type 0 where
+  pub queues : q + 20 * n ≤ 4096
+  pub nodes : w + 4 * n ≤ 4096
 
 -- a queue row that stands at a place of a file
 pub record RowPlace (at : ℕ) : Type 0 where

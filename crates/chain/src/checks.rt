@@ -7,7 +7,7 @@ ghost use Rattle.chain.specs.Refusals.{test, orElse};
 ghost use Rattle.chain.specs.Record.{rowOf, workOf};
 ghost use Rattle.chain.specs.Checks.{countCheck, field, outOfRange, chainRefusal};
 ghost use Rattle.chain.specs.Sound.{rowRange};
-ghost use Rattle.chain.specs.Faults.{fineRow, withRow, faultsOf, settled, Few, RowPlace};
+ghost use Rattle.chain.specs.Faults.{fineRow, withRow, faultsOf, settled, FineRows, TablesAt, RowPlace};
 use crate::Chain;
 use crate::Refusal;
 use words::Queue;
@@ -25,14 +25,15 @@ pub struct Faults {
     pub order: Refusal,
 }
 
-// No row looked at yet.
+// Nothing refused of any row.
 pub const NO_FAULTS: Faults = Faults {
     rows: FINE,
     nodes: FINE,
     order: FINE,
 };
 
-// 2, 4 and 5 of a chain that was handed in as a record, with places as in its packed file.
+// 2, 4 and 5 of a chain that was handed in as a record, with places as in its packed file. Faults are gathered from the first
+// row on that is not fine, so that a sound chain pays for none.
 pub fn check_chain(chain: Chain) -> Refusal
     ensures { λ r. ⌜ r ≡ chainRefusal chain ⌝ }
 {
@@ -40,7 +41,16 @@ pub fn check_chain(chain: Chain) -> Refusal
     if count.number != 0 {
         return count;
     }
-    settle(chain.period, chain_faults(chain))
+    let n = chain.n as usize;
+    let mut i = 0;
+    while i < n {
+        if !is_fine(chain.queues[i], chain.work[i]) {
+            let faults = chain_faults(chain, i, 20, 20 + 20 * chain.n);
+            return settle(chain.period, faults);
+        }
+        i += 1;
+    }
+    settle(chain.period, NO_FAULTS)
 }
 
 // 2: how many queues there are.
@@ -77,19 +87,28 @@ pub fn is_fine(row: Queue, e: u32) -> bool
         & (e <= 1000000)
 }
 
-// The faults with those of one more queue row, which stands at `at`, and of its node row, which stands at `to`.
-pub fn with_row(faults: Faults, row: Queue, at: u32, e: u32, to: u32) -> Faults
-    requires { ⌜ RowPlace at ⌝ }
-    ensures { λ r. ⌜ r ≡ withRow faults row at e to ⌝ }
+// The faults of a record's rows, of which the first `fine` are fine, with its tables at `q` and `w`.
+pub fn chain_faults(chain: Chain, fine: usize, q: u32, w: u32) -> Faults
+    requires { ⌜ FineRows chain fine × TablesAt (chain .n) q w ⌝ }
+    ensures { λ r. ⌜ r ≡ faultsOf (rowOf chain) (workOf chain) q w (chain .n) ⌝ }
 {
-    let rows = faults.rows;
-    let nodes = faults.nodes;
-    let order = faults.order;
-    Faults {
-        rows: or_else(rows, row_range(row, at)),
-        nodes: or_else(nodes, field_check(to, 1, 1000000, e)),
-        order: or_else(order, test(5, at + 8, row.threshold < row.consume)),
+    let n = chain.n as usize;
+    let k = fine as u32;
+    let mut faults = NO_FAULTS;
+    let mut at = q + 20 * k;
+    let mut to = w + 4 * k;
+    let mut i = fine;
+    while i < n {
+        let row = chain.queues[i];
+        let e = chain.work[i];
+        if !is_fine(row, e) {
+            faults = with_row(faults, row, at, e, to);
+        }
+        i += 1;
+        at += 20;
+        to += 4;
     }
+    faults
 }
 
 // The refusal of a test that fails, or none.
@@ -106,27 +125,19 @@ pub fn test(number: u32, place: u32, wrong: bool) -> Refusal
     }
 }
 
-// The faults of a record's rows, each at its place in the packed file.
-fn chain_faults(chain: Chain) -> Faults
-    requires { ⌜ Few (chain .n) ⌝ }
-    ensures { λ r. ⌜ r ≡ faultsOf (rowOf chain) (workOf chain) 20 (20 + 20 * chain .n) (chain .n) ⌝ }
+// The faults with those of one more queue row, which stands at `at`, and of its node row, which stands at `to`.
+fn with_row(faults: Faults, row: Queue, at: u32, e: u32, to: u32) -> Faults
+    requires { ⌜ RowPlace at ⌝ }
+    ensures { λ r. ⌜ r ≡ withRow faults row at e to ⌝ }
 {
-    let n = chain.n as usize;
-    let mut faults = NO_FAULTS;
-    let mut at = 20;
-    let mut to = 20 + 20 * chain.n;
-    let mut i = 0;
-    while i < n {
-        let row = chain.queues[i];
-        let e = chain.work[i];
-        if !is_fine(row, e) {
-            faults = with_row(faults, row, at, e, to);
-        }
-        i += 1;
-        at += 20;
-        to += 4;
+    let rows = faults.rows;
+    let nodes = faults.nodes;
+    let order = faults.order;
+    Faults {
+        rows: or_else(rows, row_range(row, at)),
+        nodes: or_else(nodes, field_check(to, 1, 1000000, e)),
+        order: or_else(order, test(5, at + 8, row.threshold < row.consume)),
     }
-    faults
 }
 
 // 4 of one queue row that stands at `at`, in field order.

@@ -8,12 +8,12 @@ mod stock;
 pub use checks::FINE;
 pub use checks::Faults;
 pub use checks::NO_FAULTS;
+pub use checks::chain_faults;
 pub use checks::check_chain;
 pub use checks::count_check;
 pub use checks::is_fine;
 pub use checks::settle;
 pub use checks::test;
-pub use checks::with_row;
 pub use stock::factory;
 pub use words::Queue;
 

@@ -84,7 +84,8 @@ fn do_overlap(q: u32, qend: usize, w: u32, wend: usize) -> bool
     (q as usize) < wend && (w as usize) < qend
 }
 
-// The record of a file whose tables stand well, or what 4 and 5 refuse of it. Each row is checked as it is read.
+// The record of a file whose tables stand well, or what 4 and 5 refuse of it. Each row is tested as it is read; faults are
+// gathered from the first row on that is not fine, in the record, so that a sound file pays for none.
 fn load(file: &[u8]) -> ChainAnswer
     requires { ⌜ Placed (now file) ⌝ }
     ensures { λ r. ⌜ r ≡ answered (rowsRefusal (now (file .entry))) (chainOf (now (file .entry))) ⌝ }
@@ -92,16 +93,20 @@ fn load(file: &[u8]) -> ChainAnswer
     let mut chain = chain::EMPTY;
     chain.n = words::word_of(file, 0);
     chain.period = words::word_of(file, 4);
-    let mut faults = chain::NO_FAULTS;
-    let mut at = words::word_of(file, 8);
-    let mut to = words::word_of(file, 12);
+    let q = words::word_of(file, 8);
+    let w = words::word_of(file, 12);
     let n = chain.n as usize;
+    let mut at = q;
+    let mut to = w;
+    let mut fine = 0;
+    let mut all = true;
     let mut i = 0;
     while i < n {
         let row = words::row_of(file, at as usize);
         let e = words::word_of(file, to as usize);
-        if !chain::is_fine(row, e) {
-            faults = chain::with_row(faults, row, at, e, to);
+        all = all & chain::is_fine(row, e);
+        if all {
+            fine += 1;
         }
         chain.queues[i] = row;
         chain.work[i] = e;
@@ -109,5 +114,9 @@ fn load(file: &[u8]) -> ChainAnswer
         at += 20;
         to += 4;
     }
-    chain::answer(chain::settle(chain.period, faults), chain)
+    if fine < n {
+        let faults = chain::chain_faults(chain, fine, q, w);
+        return chain::answer(chain::settle(chain.period, faults), chain);
+    }
+    chain::answer(chain::settle(chain.period, chain::NO_FAULTS), chain)
 }

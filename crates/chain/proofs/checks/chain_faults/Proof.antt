@@ -1,21 +1,31 @@
 -- `chain::checks::chain_faults` meets its contract: before row i, the faults are those of the rows before it.
 use mathlib.Core.Path.{_∙_}
 use mathlib.Core.Logic.{⊎-elim}
-use Prim.Native.Nat.{_+_, _*_, _-_}
+use Prim.Native.Nat.{_-_}
+use native.Mathlib.Omega.{arith}
 use borrow.Author.Needs.{needs}
 use Rattle.chain.specs.Record.{rowOf, workOf}
-use Rattle.chain.proofs.Gather.{Gathered, gather-none, gather-more, gather-fine, gather-end}
+use Rattle.chain.proofs.Gather.{Gathered, gather-start, gather-more, gather-fine, gather-end}
 use Rattle.chain.proofs.checks.chain_faults.Statement.{statement}
 use Rattle.chain.proofs.checks.chain_faults.Tie as tie
 
 abbrev Inv-loop : tie.InvT-loop
-Inv-loop chain n faults₀ at₀ to₀ i₀ faults at to i = Gathered (rowOf chain) (workOf chain) n 20 (20 + 20 * n) i at to faults
+Inv-loop fine q w chain n k faults₀ at₀ to₀ i₀ faults at to i = Gathered (rowOf chain) (workOf chain) n q w i at to faults
 
 abbrev μ-loop : tie.MeasureT-loop
-μ-loop chain n faults₀ at₀ to₀ i₀ faults at to i = n - i
+μ-loop fine q w chain n k faults₀ at₀ to₀ i₀ faults at to i = n - i
 
 cast-n : tie.Need-cast-n Inv-loop μ-loop
 cast-n c = search needs
+
+cast-k : tie.Need-cast-k Inv-loop μ-loop
+cast-k c = search needs
+
+mul-at : tie.Need-mul-at Inv-loop μ-loop
+mul-at c = search needs
+
+add-at : tie.Need-add-at Inv-loop μ-loop
+add-at c = search needs
 
 mul-to : tie.Need-mul-to Inv-loop μ-loop
 mul-to c = search needs
@@ -24,7 +34,7 @@ add-to : tie.Need-add-to Inv-loop μ-loop
 add-to c = search needs
 
 loop-holds : tie.Need-loop-holds Inv-loop μ-loop
-loop-holds c = gather-none _ _ _ _ _
+loop-holds c = gather-start _ _ _ _ _ _ (c .pre .0 .within) (c .pre .0 .fine)
 
 mul-row : tie.Need-mul-row Inv-loop μ-loop
 mul-row c = search needs
@@ -47,8 +57,8 @@ with-row-requires c κs = search needs
 add-i : tie.Need-add-i Inv-loop μ-loop
 add-i c = search needs
 
-add-at : tie.Need-add-at Inv-loop μ-loop
-add-at c = search needs
+add-at-2 : tie.Need-add-at-2 Inv-loop μ-loop
+add-at-2 c = search needs
 
 add-to-2 : tie.Need-add-to-2 Inv-loop μ-loop
 add-to-2 c = search needs
@@ -75,6 +85,9 @@ chain-faults-spec =
     Inv-loop
     μ-loop
     cast-n
+    cast-k
+    mul-at
+    add-at
     mul-to
     add-to
     loop-holds
@@ -85,7 +98,7 @@ chain-faults-spec =
     is-fine-requires
     with-row-requires
     add-i
-    add-at
+    add-at-2
     add-to-2
     loop-less
     loop-again

@@ -1,19 +1,18 @@
--- `chainfile::reader::load` meets its contract: before row i is read, the slots before it are filled and their faults kept.
-use mathlib.Core.Path.{_∙_}
-use mathlib.Core.Logic.{⊎-elim}
+-- `chainfile::reader::load` meets its contract: before row i is read, the slots before it are filled and the fine rows counted.
+use mathlib.Core.Logic.{inl, inr, ⊎-elim}
 use Prim.Native.Nat.{_-_}
 use native.Mathlib.Omega.{arith}
 use borrow.Author.Needs.{needs}
-use Rattle.chain.proofs.Gather.{gather-fine}
+use Rattle.chain.proofs.Gather.{none-refused}
 use Rattle.chainfile.proofs.Reading.{Loading, load-none, load-more, load-end, load-answer}
 use Rattle.chainfile.proofs.reader.load.Statement.{statement}
 use Rattle.chainfile.proofs.reader.load.Tie as tie
 
 abbrev Inv-loop : tie.InvT-loop
-Inv-loop file chain₀ faults₀ at₀ to₀ n i₀ chain faults at to i = Loading file n (chain₀ .period) at₀ to₀ i at to chain faults
+Inv-loop file chain₀ q w n at₀ to₀ fine₀ all₀ i₀ chain at to fine all i = Loading file n (chain₀ .period) q w i at to chain fine all
 
 abbrev μ-loop : tie.MeasureT-loop
-μ-loop file chain₀ faults₀ at₀ to₀ n i₀ chain faults at to i = n - i
+μ-loop file chain₀ q w n at₀ to₀ fine₀ all₀ i₀ chain at to fine all i = n - i
 
 word-of-requires : tie.Need-word-of-requires Inv-loop μ-loop
 word-of-requires c κs = search needs
@@ -31,7 +30,10 @@ cast-n : tie.Need-cast-n Inv-loop μ-loop
 cast-n c = search needs
 
 loop-holds : tie.Need-loop-holds Inv-loop μ-loop
-loop-holds c = load-none _ _ _ _ _
+loop-holds c =
+    let a = c .before .before .before .before .before .pre in
+    let n = c .before .before .before .word-of .ensures in
+    load-none _ _ _ _ _ (omega (arith, a .count, n)) (omega (arith, a .queues, a .long, n, c .before .word-of3 .ensures)) (omega (arith, a .nodes, a .long, n, c .word-of4 .ensures))
 
 cast-row-of : tie.Need-cast-row-of Inv-loop μ-loop
 cast-row-of c = search needs
@@ -48,42 +50,29 @@ word-of-requires-5 c κs = search needs
 is-fine-requires : tie.Need-is-fine-requires Inv-loop μ-loop
 is-fine-requires c κs = search needs
 
-with-row-requires : tie.Need-with-row-requires Inv-loop μ-loop
-with-row-requires c κs =
-    let l = c .before .before .before .before .before in
-    let a = l .before .before .before .before .before .before in
-    record { ends = omega (arith, a .pre .queues, a .pre .long, l .loop .inv .gathered .queue, l .before .before .before .before .word-of .ensures, l .before .before .word-of3 .ensures) }
+add-fine : tie.Need-add-fine Inv-loop μ-loop
+add-fine c = search needs
 
 mul-row : tie.Need-mul-row Inv-loop μ-loop
 mul-row c = search needs
 
 element-set-from-row : tie.Need-element-set-from-row Inv-loop μ-loop
-element-set-from-row c =
-    let l = c .before .before .before .before .before in
-    omega (arith, l .before .before .before .before .before .before .pre .count, l .before .before .before .before .word-of .ensures)
+element-set-from-row c = search needs
 
 mul-chain : tie.Need-mul-chain Inv-loop μ-loop
 mul-chain c = search needs
 
 element-write-chain : tie.Need-element-write-chain Inv-loop μ-loop
-element-write-chain c =
-    let l = c .before .before .before .before .before in
-    omega (arith, l .before .before .before .before .before .before .pre .count, l .before .before .before .before .word-of .ensures)
+element-write-chain c = search needs
 
 add-i : tie.Need-add-i Inv-loop μ-loop
 add-i c = search needs
 
 add-at : tie.Need-add-at Inv-loop μ-loop
-add-at c =
-    let l = c .before .before .before .before .before in
-    let a = l .before .before .before .before .before .before in
-    omega (arith, a .pre .queues, a .pre .long, l .loop .inv .gathered .queue, l .before .before .before .before .word-of .ensures, l .before .before .word-of3 .ensures)
+add-at c = search needs
 
 add-to : tie.Need-add-to Inv-loop μ-loop
-add-to c =
-    let l = c .before .before .before .before .before in
-    let a = l .before .before .before .before .before .before in
-    omega (arith, a .pre .nodes, a .pre .long, l .loop .inv .gathered .node, l .before .before .before .before .word-of .ensures, l .before .word-of4 .ensures)
+add-to c = search needs
 
 loop-less : tie.Need-loop-less Inv-loop μ-loop
 loop-less c = search needs
@@ -92,11 +81,14 @@ loop-again : tie.Need-loop-again Inv-loop μ-loop
 loop-again c =
     let word = c .before .before in
     let l = word .before .before .before in
-    let step = load-more _ _ _ _ _ (l .loop .inv) (omega (arith, l .before .before .before .before .before .before .pre .count, l .before .before .before .before .word-of .ensures)) (word .before .before .loop-test .taken) (word .before .row-of .ensures) (word .word-of5 .ensures) in
-    ⊎-elim
-    (λ w. step (w .2 ∙ w .1 .ensures))
-    (λ w. step (gather-fine _ _ _ _ _ _ (word .word-of5 .result) (l .loop .inv .gathered) (c .before .is-fine .ensures) (w .0 .left) (w .1)))
-    (c .if1 .came)
+    load-more _ _ _ _ _ (l .loop .inv) (word .before .before .loop-test .taken) (word .before .row-of .ensures) (word .word-of5 .ensures) (c .before .is-fine .ensures)
+    (⊎-elim (λ w. inl (w .0 .taken, w .1)) (λ w. inr (w .0 .left, w .1)) (c .if1 .came))
+
+chain-faults-requires : tie.Need-chain-faults-requires Inv-loop μ-loop
+chain-faults-requires c κs =
+    let l = c .before .before in
+    let s = l .loop .inv in
+    (load-end _ s (l .before .before .before .before .word-of .ensures) (l .before .before .before .word-of2 .ensures) (l .before .before .word-of3 .ensures) (l .before .word-of4 .ensures) (c .before .loop-test .left) .rows, record { queues = omega (arith, s .rows-end, s .count); nodes = omega (arith, s .times-end, s .count) })
 
 settle-requires : tie.Need-settle-requires Inv-loop μ-loop
 settle-requires c κs = search needs
@@ -106,15 +98,25 @@ answer-requires c κs = search needs
 
 returns : tie.Need-returns Inv-loop μ-loop
 returns c =
-    let l = c .before .before .before in
-    let offsets = l .before in
-    let n = offsets .before .before .before .word-of .ensures in
-    let nodes = offsets .before .before .word-of2 .ensures in
-    let queues = offsets .before .word-of3 .ensures in
-    let times = offsets .word-of4 .ensures in
-    let few = offsets .before .before .before .before .before .pre .count in
-    let rows = load-end _ (l .loop .inv) n nodes queues times (omega (arith, few)) (c .before .before .loop-test .left) in
-    load-answer rows (c .before .settle .ensures) (c .answer .ensures)
+    let l = c .before .before .before .before .before in
+    let queues = l .before .before .word-of3 .ensures in
+    let nodes = l .before .word-of4 .ensures in
+    let file = load-end _ (l .loop .inv) (l .before .before .before .before .word-of .ensures) (l .before .before .before .word-of2 .ensures) queues nodes (c .before .before .before .before .loop-test .left) in
+    load-answer file queues nodes (c .before .before .chain-faults .ensures) (c .before .settle .ensures) (c .answer .ensures)
+
+settle-requires-2 : tie.Need-settle-requires-2 Inv-loop μ-loop
+settle-requires-2 c κs = search needs
+
+answer-requires-2 : tie.Need-answer-requires-2 Inv-loop μ-loop
+answer-requires-2 c κs = search needs
+
+returns-2 : tie.Need-returns-2 Inv-loop μ-loop
+returns-2 c =
+    let l = c .before .before .before .before in
+    let queues = l .before .before .word-of3 .ensures in
+    let nodes = l .before .word-of4 .ensures in
+    let file = load-end _ (l .loop .inv) (l .before .before .before .before .word-of .ensures) (l .before .before .before .word-of2 .ensures) queues nodes (c .before .before .before .loop-test .left) in
+    load-answer file queues nodes (none-refused _ _ _ (file .rows) (omega (arith, l .loop .inv .count, c .before .before .if2 .left))) (c .before .settle2 .ensures) (c .answer2 .ensures)
 
 pub load-spec : {M : Type 1} → statement M
 load-spec =
@@ -133,7 +135,7 @@ load-spec =
     cast-word-of
     word-of-requires-5
     is-fine-requires
-    with-row-requires
+    add-fine
     mul-row
     element-set-from-row
     mul-chain
@@ -143,6 +145,10 @@ load-spec =
     add-to
     loop-less
     loop-again
+    chain-faults-requires
     settle-requires
     answer-requires
-    returns)
+    returns
+    settle-requires-2
+    answer-requires-2
+    returns-2)
