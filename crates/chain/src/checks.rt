@@ -1,13 +1,13 @@
 // The checks of a chain's own numbers, 2, 4 and 5, which a file and a record share. A check answers the first refusal
 // of its kind, or none; `check_chain` is what every call that is handed a record runs first.
 ghost use mathlib.Core.Path.{_≡_};
-ghost use Prim.Native.Nat.{_+_, _*_};
+ghost use mathlib.Core.List.{[], _∷_};
 ghost use Rattle.chain.specs.Tests.{outside};
-ghost use Rattle.chain.specs.Refusals.{test, orElse};
+ghost use Rattle.chain.specs.Refusals.{test, orElse, first};
 ghost use Rattle.chain.specs.Record.{rowOf, workOf};
-ghost use Rattle.chain.specs.Checks.{countCheck, field, outOfRange, chainRefusal};
+ghost use Rattle.chain.specs.Checks.{countCheck, field, outOfRange, recordRange, recordOrder, chainRefusal};
 ghost use Rattle.chain.specs.Sound.{rowRange};
-ghost use Rattle.chain.specs.Faults.{fineRow, withRow, faultsOf, settled, FineRows, TablesAt, RowPlace};
+ghost use Rattle.chain.specs.Faults.{fineRow, withRow, faultsOf, settled, Few, FineRows, TablesAt, RowPlace};
 use crate::Chain;
 use crate::Refusal;
 use words::Queue;
@@ -32,8 +32,7 @@ pub const NO_FAULTS: Faults = Faults {
     order: FINE,
 };
 
-// 2, 4 and 5 of a chain that was handed in as a record, with places as in its packed file. Faults are gathered from the first
-// row on that is not fine, so that a sound chain pays for none.
+// 2, 4 and 5 of a chain that was handed in as a record, with places as in its packed file.
 pub fn check_chain(chain: Chain) -> Refusal
     ensures { λ r. ⌜ r ≡ chainRefusal chain ⌝ }
 {
@@ -41,14 +40,9 @@ pub fn check_chain(chain: Chain) -> Refusal
     if count.number != 0 {
         return count;
     }
-    let n = chain.n as usize;
-    let mut i = 0;
-    while i < n {
-        if !is_fine(chain.queues[i], chain.work[i]) {
-            let faults = chain_faults(chain, i, 20, 20 + 20 * chain.n);
-            return settle(chain.period, faults);
-        }
-        i += 1;
+    let fine = fine_rows(chain);
+    if fine < chain.n as usize {
+        return refused_rows(chain, fine);
     }
     settle(chain.period, NO_FAULTS)
 }
@@ -123,6 +117,32 @@ pub fn test(number: u32, place: u32, wrong: bool) -> Refusal
     } else {
         FINE
     }
+}
+
+// How many rows of a record, from the first on, are fine: a loop that carries no faults, so that a sound chain pays for none.
+fn fine_rows(chain: Chain) -> usize
+    requires { ⌜ Few (chain .n) ⌝ }
+    ensures { λ r. ⌜ FineRows chain r ⌝ }
+{
+    let n = chain.n as usize;
+    let mut i = 0;
+    while i < n {
+        if !is_fine(chain.queues[i], chain.work[i]) {
+            return i;
+        }
+        i += 1;
+    }
+    i
+}
+
+// 4, then 5, of a record of whose rows the first `fine` are fine, with places as in its packed file. It is a function of its own
+// so that the chain is copied for `chain_faults` only where something is refused.
+fn refused_rows(chain: Chain, fine: usize) -> Refusal
+    requires { ⌜ FineRows chain fine ⌝ }
+    ensures { λ r. ⌜ r ≡ first (recordRange chain ∷ recordOrder chain ∷ []) ⌝ }
+{
+    let faults = chain_faults(chain, fine, 20, 20 + 20 * chain.n);
+    settle(chain.period, faults)
 }
 
 // The faults with those of one more queue row, which stands at `at`, and of its node row, which stands at `to`.

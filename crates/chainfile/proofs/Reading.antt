@@ -40,18 +40,21 @@ pub rows-answer : (f : List ℕ) {h : Refusal} {a : ChainAnswer} → h ≡ heade
 unfolding readAnswer
 rows-answer f is z e = e ∙ ap (λ (r : Refusal). answered r (chainOf f)) (or-right is z refl ∙ sym (read-parts f))
 
--- of the first i rows the first `fine` are fine, and that is all of them where `all` says so
+-- of the first i rows the first `fine` are fine, which are all of them where `all` says so
 pub record Tally (row : ℕ → Queue) (e : ℕ → ℕ) (i fine : ℕ) (all : Bool) : Type 0 where
   pub within : fine ≤ i
   pub fines : AllFine row e fine
   pub every : all ≡ true → fine ≡ i
 
+-- the count behind a row, by whether that row and all before it are fine
+abbrev Counted : Bool → ℕ → ℕ → Type 0
+Counted all fine fine′ = ((all ≡ true) × (fine′ ≡ fine + 1)) ⊎ ((all ≡ false) × (fine′ ≡ fine))
+
 module _ (row : ℕ → Queue) (e : ℕ → ℕ) where
   tally-none : Tally row e 0 0 true
   tally-none = record { within = zero-le; fines = fine-none row e; every = λ h. refl }
 
-  -- one row more, counted where it and all before it are fine
-  tally-more : {i fine fine′ : ℕ} {all b : Bool} → Tally row e i fine all → b ≡ fineRow (row i) (e i) → ((all && b ≡ true) × (fine′ ≡ fine + 1)) ⊎ ((all && b ≡ false) × (fine′ ≡ fine)) → Tally row e (i + 1) fine′ (all && b)
+  tally-more : {i fine fine′ : ℕ} {all b : Bool} → Tally row e i fine all → b ≡ fineRow (row i) (e i) → Counted (all && b) fine fine′ → Tally row e (i + 1) fine′ (all && b)
   tally-more {i} {fine} {fine′} {all} {b} t is = ⊎-elim yes no
     where
       yes : (all && b ≡ true) × (fine′ ≡ fine + 1) → Tally row e (i + 1) fine′ (all && b)
@@ -81,7 +84,7 @@ module _ (f : List ℕ) (n y q w : ℕ) where
   pub load-none : n ≤ 16 → q + 20 * n ≤ 4096 → w + 4 * n ≤ 4096 → Loading f n y q w 0 q w (record { n = n; period = y; queues = replicate 16 none; work = replicate 16 0 }) 0 true
   load-none few a b = record { few = few; rows-end = a; times-end = b; within = zero-le; queue = omega arith; node = omega arith; count = refl; period = refl; queues = slots-none _ none 16; work = slots-none _ 0 16; tally = tally-none _ _ }
 
-  pub load-more : {c : Chain} {fine fine′ : ℕ} {all b : Bool} {row : Queue} {e i at to : ℕ} → Loading f n y q w i at to c fine all → i < n → row ≡ rowAt f at → e ≡ wordAt f to → b ≡ fineRow row e → ((all && b ≡ true) × (fine′ ≡ fine + 1)) ⊎ ((all && b ≡ false) × (fine′ ≡ fine))
+  pub load-more : {c : Chain} {fine fine′ : ℕ} {all b : Bool} {row : Queue} {e i at to : ℕ} → Loading f n y q w i at to c fine all → i < n → row ≡ rowAt f at → e ≡ wordAt f to → b ≡ fineRow row e → Counted (all && b) fine fine′
       → Loading f n y q w (i + 1) (at + 20) (to + 4) (record { n = c .n; period = c .period; queues = set (c .queues) i row; work = set (c .work) i e }) fine′ (all && b)
   load-more {row = row} {e} {i} s l er ee is counted =
       let queue : row ≡ rowAt f (q + 20 * i) = er ∙ ap (rowAt f) (s .queue) in
