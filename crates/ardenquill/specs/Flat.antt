@@ -12,11 +12,6 @@ coded a = record { number = a .number; place = a .place; kind = kindOf (a .outco
 
 -- and beside the state
 abbrev pub flat : TickAnswer → OutcomeRun
-flat a = record {
-  number = a .number;
-  place = a .place;
-  kind = kindOf (a .outcome);
-  tick = tickOf (a .outcome);
-  at = atOf (a .outcome);
-  run = a .run;
-}
+flat a =
+    let code = coded a in
+    record { number = code .number; place = code .place; kind = code .kind; tick = code .tick; at = code .at; run = a .run }
