@@ -5,8 +5,9 @@
 --   Paced c s                  a state that passes 17, in which no node has fired more often than the clock has ticked
 --   fresh-paced, tick-paced    a fresh start is one, and a clean tick leaves one
 --   paced-countable            then every count can grow
-use mathlib.Core.Path.{_≡_, refl, ap, _∙_}
-use Prim.Native.Nat.{ℕ, suc, _≤_, _<_}
+--   ticks-paced                T clean ticks from a fresh start leave one at clock T
+use mathlib.Core.Path.{_≡_, refl, sym, ap, _∙_}
+use Prim.Native.Nat.{ℕ, zero, suc, _≤_, _<_}
 use native.Mathlib.Omega.{arith}
 use Rattle.chain.specs.Record.{workOf}
 use Rattle.chain.specs.declared.Chain.{Chain}
@@ -16,8 +17,8 @@ use Rattle.state.specs.declared.Run.{Run}
 use Rattle.past.specs.Runs.{Whole}
 use Rattle.instants.specs.Checks.{longest}
 use Rattle.instants.specs.Steps.{clean, onward, finish, finished, ticks, instants, tick}
-use Rattle.instants.specs.Runs.{onward-clean, instants-ticks}
-use Rattle.instants.specs.Kept.{Running, Countable, TickStep, tick-step, ended-none}
+use Rattle.instants.specs.Runs.{onward-clean, ticks-none, ticks-last, instants-ticks}
+use Rattle.instants.specs.Kept.{Running, Countable, TickStep, onward-cases, tick-step, ended-none}
 use Rattle.instants.specs.declared.Outcome.the-variants.{Clean}
 use Rattle.instants.specs.declared.Ticked.{Ticked}
 
@@ -63,3 +64,13 @@ pub tick-paced : {c : Chain} {s : Run} → Paced c s → tick c s .outcome ≡ C
 tick-paced {c} {s} p h =
     let t : TickStep c s (tick c s .run) = tick-step (p .running) h in
     record { running = t .running; counts = λ i f. omega (arith, t .counts i f, p .counts i f, t .clock) }
+
+-- T clean ticks from a fresh start leave such a state, at clock T
+pub ticks-paced : {c : Chain} → Accepted c → (T : ℕ) → ticks c T (freshRun c) .outcome ≡ Clean → Paced c (ticks c T (freshRun c) .run) × (ticks c T (freshRun c) .run .clock ≡ T)
+unfolding freshRun
+ticks-paced {c} a zero h = rw (ticks-none c (freshRun c)) (fresh-paced a, refl)
+ticks-paced {c} a (suc T) h =
+    let s : Run = ticks c T (freshRun c) .run in
+    let o = onward-cases (ticks c T (freshRun c)) (tick c) (ap (λ (x : Ticked). x .outcome) (sym (ticks-last c T (freshRun c))) ∙ h) in
+    let k = ticks-paced a T (o .0) in
+    rw (ticks-last c T (freshRun c) ∙ o .1 .1) (tick-paced (k .0) (o .1 .0), omega (arith, tick-step (k .0 .running) (o .1 .0) .clock, k .1))

@@ -8,3 +8,9 @@ pub mod Runs
 pub mod Kept
 pub mod Fresh
 pub mod Spill
+pub mod Source
+pub mod Outcomes
+pub mod Once
+pub mod Exactly
+pub mod Answers
+pub mod Totals

@@ -1,14 +1,19 @@
 -- A deadline run by instants and by ticks (01, Firing).
 --   onward-clean, -none, -then what follows a clean state, nothing that follows, and one thing after the other
+--   clean-or, onward-goes, onward-stops
+--                              an outcome is clean or not; what follows one that is, and nothing follows one that is not
 --   ticks-none, ticks-suc      no tick, and one more
 --   instants-ticks             instants are the effect of a firing that is finished, and then ticks
---   ticks-more                 a+b ticks are a ticks, carried on for b
+--   ticks-more, ticks-last     a+b ticks are a ticks, carried on for b, and so for one
 use mathlib.Core.Path.{_≡_, refl, sym, ap, _∙_}
+use mathlib.Core.Logic.{_⊎_, inl, inr}
 use Prim.Native.Nat.{ℕ, zero, suc, _+_}
 use native.Mathlib.Nat.{zero-add, suc-add}
+use native.Mathlib.Numerals.{add-one}
+use native.Mathlib.Omega.{arith}
 use Rattle.chain.specs.declared.Chain.{Chain}
 use Rattle.state.specs.declared.Run.{Run}
-use Rattle.instants.specs.Steps.{clean, goes, onward, finished, advanced, tick, ticks, instants}
+use Rattle.instants.specs.Steps.{kindOf, clean, goes, onward, finished, advanced, tick, ticks, instants}
 use Rattle.instants.specs.declared.Outcome.{Outcome}
 use Rattle.instants.specs.declared.Outcome.the-variants.{Clean, Overflowed, NoDeadline}
 use Rattle.instants.specs.declared.Ticked.{Ticked}
@@ -37,6 +42,26 @@ onward-none r = by (r .outcome) (r .run)
     by Clean s = refl
     by (Overflowed t q) s = refl
     by (NoDeadline t i) s = refl
+
+-- an outcome is clean, or it is not
+pub clean-or : (o : Outcome) → (o ≡ Clean) ⊎ (o ≡ Clean → ⊥)
+clean-or Clean = inl refl
+clean-or (Overflowed t q) = inr (λ e. let z : _≡_ {A = ℕ} 1 0 = ap kindOf e in absurd (omega arith))
+clean-or (NoDeadline t i) = inr (λ e. let z : _≡_ {A = ℕ} 2 0 = ap kindOf e in absurd (omega arith))
+
+-- what was left clean goes on
+pub onward-goes : (r : Ticked) (f : Run → Ticked) → r .outcome ≡ Clean → onward r f ≡ f (r .run)
+onward-goes r f h = ap (λ (o : Outcome). onward (record { outcome = o; run = r .run }) f) h ∙ onward-clean (r .run) f
+
+-- and nothing follows what was not
+pub onward-stops : (r : Ticked) (f : Run → Ticked) → (r .outcome ≡ Clean → ⊥) → onward r f ≡ r
+unfolding onward
+onward-stops r f = by (r .outcome) (r .run)
+  where
+    by : (o : Outcome) (s : Run) → (o ≡ Clean → ⊥) → goes o s f ≡ record { outcome = o; run = s }
+    by Clean s n = absurd (n refl)
+    by (Overflowed t q) s n = refl
+    by (NoDeadline t i) s n = refl
 
 module _ (c : Chain) where
   pub ticks-none : (s : Run) → ticks c 0 s ≡ clean s
@@ -83,3 +108,10 @@ module _ (c : Chain) where
       ∙ ap (onward (tick c s)) (λ i u. ticks-more a b u i)
       ∙ sym (onward-then (tick c s) (ticks c a) (ticks c b))
       ∙ ap (λ (r : Ticked). onward r (ticks c b)) (sym (ticks-suc a s))
+
+  -- so T+1 ticks are T ticks, carried on for one
+  pub ticks-last : (T : ℕ) (s : Run) → ticks c (suc T) s ≡ onward (ticks c T s) (tick c)
+  ticks-last T s = ap (λ (a : ℕ). ticks c a s) (sym (add-one T)) ∙ ticks-more T 1 s ∙ ap (onward (ticks c T s)) (λ i u. once u i)
+    where
+      once : (u : Run) → ticks c 1 u ≡ tick c u
+      once u = ticks-suc 0 u ∙ ap (onward (tick c u)) (λ i v. ticks-none v i) ∙ onward-none (tick c u)
