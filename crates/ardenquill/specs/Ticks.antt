@@ -7,10 +7,18 @@ pub use Rattle.instants.specs.Checks.{longest, clockCheck, spentTest, tickCheck
 pub use Rattle.instants.specs.Refusals.{clock-exact, clock-silent, clock-only, FirstSpent, LateOrSpent, spent-exact, spent-silent, spent-only, length-exact, length-silent, length-only, tick-parts, tick-17, tick-9, tick-earlier, tickNumbers, tick-numbered, tick-accepts, Ticking, ticking-is, deadline-run-parts, deadline-run-9, deadline-run-earlier, deadlineRunNumbers, deadline-run-numbered, deadline-run-accepts, ranAs, refusedAs, tick-ran, tick-refused, deadline-run-ran, deadline-run-refused}
 pub use Rattle.instants.specs.Runs.{onward-clean, onward-none, onward-then, instants-ticks, ticks-more}
 pub use Rattle.instants.specs.Kept.{Running, TickStep, Countable, tick-step, begun-stays}
-pub use Rattle.instants.specs.Lacking.{FirstLacking, lacking-exact, lacking-silent}
-pub use Rattle.instants.specs.Fresh.{fresh-running, fresh-rests, run-is-ticks, Paced, fresh-paced, paced-countable, tick-paced}
+pub use Rattle.instants.specs.Lacking.{Within, Past, FirstLacking, lacking-exact, lacking-silent}
+pub use Rattle.instants.specs.Fresh.{fresh-running, fresh-rests, run-is-ticks, Paced, fresh-paced, paced-countable, tick-paced, ticks-paced}
 pub use Rattle.instants.specs.Best.{First, Best, choose-best, best-unique, choose-is, chosen-best, chosen-only, choose-shift, chosen-shift}
 pub use Rattle.instants.specs.Spill.{room-after-choice, finish-never-spills, ended-stays, outcome-stays, ticks-never-spill, run-never-spills}
+pub use Rattle.instants.specs.Source.{divides-is, Due, Full, Fits, source-spills, source-fires, source-rests, SourceOnce, source-only}
+pub use Rattle.instants.specs.Outcomes.{Dated, lacking-once, lacking-dated}
+pub use Rattle.instants.specs.Once.{Works, works-is, Effect, WorkOnce, work-only, TickOnce, once-counts, once-keeps}
+pub use Rattle.instants.specs.Exactly.{Spills, Lacks, Spilled, Lacked, Stopped, Cleaned, OneTick, one-overflows, one-lacks, one-cleans, one-stays, one-leaves, clean-only, one-tick-only, tick-exactly, Then, ticks-to-only, ticks-exactly, run-exactly}
+unfoldable pub use Rattle.instants.specs.Exactly.{TicksTo}
+pub use Rattle.instants.specs.Answers.{left, answer-one, answer-exactly, answer-ends, run-may, ran-to, run-answers, run-start, at-clock, run-next, run-stops, run-stays, run-before, Ends, run-ends, CleanStep, along}
+unfoldable pub use Rattle.instants.specs.Totals.{spentOn, HowMany}
+pub use Rattle.instants.specs.Totals.{workedBy, total, SomeOver, some-over, Waits, tick-total, how-many-one, run-clock, run-source, run-work}
 unfoldable pub use Rattle.traces.specs.Trace.{tracing, sourceEntry, finishEntry, finishTrace, tickTrace, trace}
 pub use Rattle.traces.specs.Trace.{Entry, nodes, resting, Replays}
 pub use Rattle.traces.specs.Traced.{tick-traced, traced, run-traced, run-counted, run-balance, run-naming}

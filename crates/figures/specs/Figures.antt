@@ -2,6 +2,9 @@
 --   feed, permeate, flush    the factory chains
 --   permeateWritten, feedConsuming c, feedWorking e B, largeCycle
 --                            what the figures change in them, and P10's chain
+--   dueFirst                 a chain in whose run deadlines decide
+--   atClock c t, late, lateRun
+--                            a fresh start with another clock; a chain and a state whose node 1 is over threshold and has no deadline
 --   table                    the questions with their answers
 --   same, allRight           the computed test
 --   figures                  the statement: what the test decides of the table
@@ -11,12 +14,13 @@ use mathlib.Core.List.{List, [], _∷_}
 use Prim.Native.Nat.{ℕ, zero, suc, _<_}
 use native.Mathlib.Omega.{arith}
 use lib.Dec.{T, eqb, eqb→eq}
-use lib.ListN.{length, getD}
+use lib.ListN.{length, getD, replicate}
 use Rattle.ardenquill.specs.Chains.{queue, made, factoryAnswer}
 use Rattle.ardenquill.specs.Runs.{fired, freshAnswer}
 use Rattle.ardenquill.specs.Histories.{after}
-use Rattle.ardenquill.specs.Records.{Chain}
-use Rattle.figures.specs.Questions.{Question, analyse, checkedForRun, fresh, fire, immediate, deadline, tick, deadlineRun, answerTo}
+use Rattle.ardenquill.specs.Ticks.{withClock}
+use Rattle.ardenquill.specs.Records.{Chain, Run}
+use Rattle.figures.specs.Questions.{Question, analyse, checkedForRun, fresh, fire, immediate, deadline, tick, deadlineRun, deadlineRunRefusal, answerTo}
 
 -- the factory chains, and what the figures change in them
 abbrev pub feed : Chain
@@ -40,9 +44,24 @@ feedWorking e B = made 10 (queue 4 7 3 B ∷ []) (e ∷ [])
 abbrev pub largeCycle : Chain
 largeCycle = made 1000000 (queue 1 65521 65521 0 ∷ []) (1 ∷ [])
 
+abbrev pub dueFirst : Chain
+dueFirst = made 6 (queue 3 3 3 3 ∷ queue 1 3 3 5 ∷ []) (3 ∷ 4 ∷ [])
+
+-- a fresh start with another clock
+abbrev pub atClock : Chain → ℕ → Run
+atClock c t = withClock (freshAnswer c .run) t
+
+-- N_1's next index is past the limit one node further down
+abbrev pub late : Chain
+late = made 10 (queue 1 1 1 10 ∷ []) (1 ∷ [])
+
+-- and it is over threshold at a clock at which the source does not fire
+abbrev pub lateRun : Run
+lateRun = record { clock = 1; counts = 4294967291 ∷ 4294967290 ∷ replicate 15 0; held = 1 ∷ replicate 15 0; done = replicate 16 0 }
+
 -- an answer: number, place, n; for each queue x, y, minimum, naming count, capacity, sign and size of the margin; busy, cycle. One with a run
 -- state: number, place, clock; the counts from the source on; what the queues hold; the work done. One with an outcome: the outcome's number behind
--- the place, and its values at the end. A deadline: number, place, the deadline
+-- the place, and its values at the end. A deadline: number, place, the deadline. Of a long run: number, place
 abbrev pub table : List (Question × List ℕ)
 table =
     -- P1, and P6's 4
@@ -74,6 +93,12 @@ table =
     ∷ (deadlineRun (feedWorking 7 0) 41, (0 ∷ 0 ∷ 0 ∷ 40 ∷ 4 ∷ 3 ∷ 7 ∷ 3 ∷ 40 ∷ 0 ∷ []))
     ∷ (deadlineRun (feedWorking 7 0) 40, (0 ∷ 0 ∷ 0 ∷ 40 ∷ 4 ∷ 3 ∷ 7 ∷ 3 ∷ []))
     ∷ (deadlineRun (feedWorking 7 12) 90, (0 ∷ 0 ∷ 0 ∷ 90 ∷ 9 ∷ 10 ∷ 6 ∷ 0 ∷ []))
+    -- a run whose deadlines decide: at ticks at which both nodes are over threshold it is not always the one nearest the sink that works
+    ∷ (deadlineRun dueFirst 20, (0 ∷ 0 ∷ 0 ∷ 20 ∷ 4 ∷ 3 ∷ 0 ∷ 3 ∷ 3 ∷ 2 ∷ 3 ∷ []))
+    -- Feed goes on past tick 100
+    ∷ (deadlineRun (feedWorking 2 10) 110, (0 ∷ 0 ∷ 0 ∷ 110 ∷ 11 ∷ 13 ∷ 5 ∷ 0 ∷ []))
+    -- 13 is looked for where the source does not step, too
+    ∷ (tick late lateRun, (0 ∷ 0 ∷ 13 ∷ 1 ∷ 4294967291 ∷ 4294967290 ∷ 1 ∷ 0 ∷ 1 ∷ 1 ∷ []))
     -- P9: c = τ is accepted, c = τ + 1 refused 5 at the place of c
     ∷ (analyse (feedConsuming 7), (0 ∷ 0 ∷ 1 ∷ 4 ∷ 70 ∷ 10 ∷ 7 ∷ 10 ∷ 0 ∷ 0 ∷ 8 ∷ 70 ∷ []))
     ∷ (analyse (feedConsuming 8), (5 ∷ 28 ∷ 0 ∷ 0 ∷ 0 ∷ []))
@@ -86,6 +111,9 @@ table =
     -- the first tick, a run that is too long, and the deadline of the sink's first firing and of one that there is not
     ∷ (tick feed (freshAnswer feed .run), (0 ∷ 0 ∷ 0 ∷ 1 ∷ 1 ∷ 0 ∷ 4 ∷ 0 ∷ []))
     ∷ (deadlineRun feed 1000001, (9 ∷ 0 ∷ 0 ∷ 0 ∷ 0 ∷ 0 ∷ 0 ∷ 0 ∷ []))
+    ∷ (deadlineRunRefusal feed 1000000, (0 ∷ 0 ∷ []))
+    ∷ (tick feed (atClock feed 999999), (0 ∷ 0 ∷ 0 ∷ 1000000 ∷ 0 ∷ 0 ∷ 0 ∷ 0 ∷ []))
+    ∷ (tick feed (atClock feed 1000000), (9 ∷ 0 ∷ 0 ∷ 1000000 ∷ 0 ∷ 0 ∷ 0 ∷ 0 ∷ []))
     ∷ (deadline feed 1 1, (0 ∷ 0 ∷ 20 ∷ []))
     ∷ (deadline feed 1 0, (11 ∷ 1 ∷ 0 ∷ []))
     ∷ []

@@ -1,5 +1,5 @@
 -- A question is a public call with what it is handed; its answer is the call's own definition, as a list of numbers.
---   Question, answerTo q     a call, and what it answers
+--   Question, answerTo q     a call, and what it answers; of a run that is too long to be computed here, its number and place
 --   signed z                 a number with its sign: 0 and z, or 1 and how far z is below 0
 --   sizes q, analysed a      a queue's line as numbers: x, y, minimum, naming count, capacity, signed margin; and the whole answer:
 --                            number, place, n, the first n lines, busy, cycle
@@ -28,6 +28,7 @@ pub data Question : Type 0 where
   deadline : Chain → ℕ → ℕ → Question
   tick : Chain → Run → Question
   deadlineRun : Chain → ℕ → Question
+  deadlineRunRefusal : Chain → ℕ → Question
 
 -- 0 and z, or 1 and how far z is below 0
 unfoldable pub signed : ℤ → List ℕ
@@ -66,3 +67,4 @@ answerTo (immediate c k) = state c (immediateAnswer c k)
 answerTo (deadline c i k) = deadlineAnswer c i k .number ∷ deadlineAnswer c i k .place ∷ deadlineAnswer c i k .due ∷ []
 answerTo (tick c s) = outcome c (tickAnswer c s)
 answerTo (deadlineRun c T) = outcome c (deadlineRunAnswer c T)
+answerTo (deadlineRunRefusal c T) = deadlineRunAnswer c T .number ∷ deadlineRunAnswer c T .place ∷ []

@@ -5,12 +5,14 @@
 --   WorkOnce c u w t           t is u after one tick of work of N_w, and after the effect of its firing where that is then finished
 --   work-once, work-only       what a tick of work leaves is that, and nothing else is
 --   TickOnce c s t             t is s after one clean tick
+--   work-source                a tick of work is none of the source's
+--   once-counts, once-keeps    so a clean tick counts one firing of the source more exactly where y divides the clock, and none exactly elsewhere
 use mathlib.Core.Path.{_≡_, refl, sym, ap, subst, _∙_}
 use mathlib.Core.Logic.{_↔_, _≢_, by-cases}
 use mathlib.Core.List.{List}
 use Prim.Native.Nat.{ℕ, zero, suc, _+_, _≤_, _<_}
 use native.Mathlib.Nat.{zero-lt-suc}
-use native.Mathlib.Decide.{ℕ-discrete, decLt}
+use native.Mathlib.Decide.{ℕ-discrete, decLt, decDvd}
 use native.Mathlib.Omega.{arith}
 use lib.ListN.{getD, length-set}
 use lib.Seq.{getD-set-same, getD-set-other, ext-getD}
@@ -218,3 +220,20 @@ pub record TickOnce (c : Chain) (s t : Run) : Type 0 where
   pub dated : Dated c after
   pub works : Works c after worker
   pub work : WorkOnce c after worker t
+
+-- a tick of work is none of the source's
+pub work-source : {c : Chain} {u t : Run} {w : ℕ} → WorkOnce c u w t → countAt t 0 ≡ countAt u 0
+work-source {c} {u} {t} {w} k = at w refl
+  where
+    at : (i : ℕ) → w ≡ i → countAt t 0 ≡ countAt u 0
+    at zero e = ap (λ (l : List ℕ). getD l 0 0) (k .idle e .0)
+    at (suc j) e = by-cases (ℕ-discrete (doneAt u j + 1) (workOf c j)) (λ all. k .ends j e all .counts 0 (λ z. omega arith)) (λ n. ap (λ (l : List ℕ). getD l 0 0) (k .on j e n .1 .0))
+
+module _ {c : Chain} {s t : Run} (k : TickOnce c s t) where
+  -- "the source fires if y divides t"
+  pub once-counts : (countAt t 0 ≡ countAt s 0 + 1) ↔ Due c s
+  once-counts = (λ e. by-cases (decDvd (c .period) (s .clock)) (λ d. d) (λ n. absurd (omega (arith, e, work-source (k .work), k .source .rests n .0))), λ d. work-source (k .work) ∙ k .source .fires d .0)
+
+  -- and else does not
+  pub once-keeps : (countAt t 0 ≡ countAt s 0) ↔ (Due c s → ⊥)
+  once-keeps = (λ e d. omega (arith, e, once-counts .1 d), λ n. work-source (k .work) ∙ k .source .rests n .0)

@@ -26,8 +26,8 @@ use Rattle.state.specs.State.{countAt, heldAt, doneAt, freshRun, fresh-count}
 use Rattle.state.specs.Fired.{Over}
 use Rattle.state.specs.declared.Run.{Run}
 use Rattle.instants.specs.Checks.{deadlineRunAnswer}
-use Rattle.instants.specs.Source.{Due, SourceOnce, source-only}
-use Rattle.instants.specs.Once.{WorkOnce, TickOnce}
+use Rattle.instants.specs.Source.{SourceOnce, source-only}
+use Rattle.instants.specs.Once.{WorkOnce, TickOnce, once-counts, once-keeps}
 use Rattle.instants.specs.Answers.{run-may, CleanStep, at-clock, run-start, along}
 use Rattle.instants.specs.declared.Outcome.the-variants.{Clean}
 use Rattle.instants.specs.declared.TickAnswer.{TickAnswer}
@@ -44,26 +44,17 @@ between-next y t some n =
     let ne : t ≢ y * ceil t y = λ e. n (subst (λ (x : ℕ). y ∣ x) (sym e) (dvd-mul-right y (ceil t y))) in
     ceil-unique (t + 1) y (ceil t y) (omega (arith, ne, ceil-above t y some)) (omega (arith, ceil-below t y some))
 
--- one tick of work is none of the source's
-work-source : {c : Chain} {u t : Run} (w : ℕ) → WorkOnce c u w t → countAt t 0 ≡ countAt u 0
-work-source zero k = ap (λ (l : List ℕ). getD l 0 0) (k .idle refl .0)
-work-source {c} {u} (suc j) k = by-cases (ℕ-discrete (doneAt u j + 1) (workOf c j)) (λ e. k .ends j refl e .counts 0 (λ z. omega arith)) (λ n. ap (λ (l : List ℕ). getD l 0 0) (k .on j refl n .1 .0))
-
 -- "the source fires if y divides t": its count after one clean tick
 tick-source : {c : Chain} {t : ℕ} {s u : Run} → CleanStep c t s u → countAt s 0 ≡ ceil t (c .period) → countAt u 0 ≡ ceil (suc t) (c .period)
-tick-source {c} {t} {s} {u} k p = work-source (k .tick .worker) (k .tick .work) ∙ by-cases (decDvd (c .period) (s .clock)) due rests ∙ ap (λ (m : ℕ). ceil m (c .period)) (omega (arith, k .clock))
+tick-source {c} {t} {s} {u} k p = by-cases (decDvd (c .period) (s .clock))
+    (λ d. once-counts (k .tick) .1 d ∙ rw (p, ← next) (sym (multiple-next (c .period) t some (subst (λ (m : ℕ). c .period ∣ m) (k .clock) d))))
+    (λ n. once-keeps (k .tick) .1 n ∙ rw (p, ← next) (sym (between-next (c .period) t some (λ d. n (subst (λ (m : ℕ). c .period ∣ m) (sym (k .clock)) d)))))
   where
     some : 0 < c .period
     some = k .running .chain .chain .period .0
 
-    now : countAt s 0 ≡ ceil (s .clock) (c .period)
-    now = p ∙ ap (λ (m : ℕ). ceil m (c .period)) (sym (k .clock))
-
-    due : Due c s → countAt (k .tick .after) 0 ≡ ceil (s .clock + 1) (c .period)
-    due d = k .tick .source .fires d .0 ∙ ap (λ (x : ℕ). x + 1) now ∙ sym (multiple-next (c .period) (s .clock) some d)
-
-    rests : (Due c s → ⊥) → countAt (k .tick .after) 0 ≡ ceil (s .clock + 1) (c .period)
-    rests n = k .tick .source .rests n .0 ∙ now ∙ sym (between-next (c .period) (s .clock) some n)
+    next : t + 1 ≡ suc t
+    next = add-one t
 
 -- the ticks that N_(j+1) has worked: e for each of its firings, and those on the firing that it has begun
 abbrev pub workedBy : Chain → Run → ℕ → ℕ

@@ -1,8 +1,8 @@
 -- What is shown beyond the demands, of what the public calls answer.
 --   c, h, j, i, k, T         a chain, a list of nodes fired in this order, a queue, a node, source firings, ticks (Demand3)
 --   feedWorking e B          Feed with the execution time e and the capacity B
---   load-below-one-overflows, larger-clean
---                            a chain whose load is below 1 and which overflows (P8 of the scope), and that with a larger queue it does not
+--   load-below-one-overflows, overflow-for-c, larger-clean
+--                            a chain whose load is below 1 and which overflows (P8 of the scope), what C is told of that, and that with a larger queue it does not
 --   firings c T              the nodes that fired in the deadline run of T ticks, in order
 --   run-fires, run-state     manual firing accepts each of them, and after them counts and contents are the run's
 --   run-counted, run-balance, run-naming
@@ -30,6 +30,7 @@ use Rattle.ardenquill.specs.Histories.{times, after, at-some}
 use Rattle.ardenquill.specs.Immediate as immediate
 use Rattle.ardenquill.specs.Immediate.{Reached, reached-after, below-minimum, schedule, immediateAnswer}
 use Rattle.ardenquill.specs.Ticks.{numberOf, valuesOf, kindOf, onward, ticks, instants, deadlineRunAnswer, ranAs, run-is-ticks, ticks-more, nodes, trace, resting, run-traced, run-never-spills}
+use Rattle.ardenquill.specs.Flat.{flat}
 use Rattle.ardenquill.specs.Records.{Chain, Run, Outcome, Clean, Overflowed, NoDeadline, Ticked, TickAnswer}
 use Rattle.promises.specs.Replay.{pOf, cOf, line, replayAnswer, Fires, Sometime, Ample, LowAt, Low, AtOnce, Runs, fires-is, fires-state}
 use Rattle.promises.specs.Laws.{minimum-is, by-is, accepted, permits, state-is, moment, prompts, Each, each-at, Firings, firing-at}
@@ -50,6 +51,12 @@ pub load-below-one-overflows : let a = analyseAnswer (feedWorking 7 0) in
     × (((r .number ≡ 0) × ((numberOf (r .outcome) ≡ 0) × (valuesOf (r .outcome) ≡ 40 ∷ 0 ∷ []))) × ((countAt (r .run) 0 ≡ 4) × ((countAt (r .run) 1 ≡ 3) × (heldAt (r .run) 0 ≡ 7))))
 unfolding analyseAnswer deadlineRunAnswer
 load-below-one-overflows = ((refl, (refl, refl)), ((refl, (refl, refl)), (refl, (refl, refl))))
+
+-- as C is answered it: kind 1, tick 40, at 0, beside the state
+pub overflow-for-c : let r = flat (deadlineRunAnswer (feedWorking 7 0) 41) in
+    ((r .number ≡ 0) × (r .place ≡ 0)) × (((r .kind ≡ 1) × ((r .tick ≡ 40) × (r .at ≡ 0))) × ((countAt (r .run) 0 ≡ 4) × ((countAt (r .run) 1 ≡ 3) × (heldAt (r .run) 0 ≡ 7))))
+unfolding deadlineRunAnswer
+overflow-for-c = ((refl, refl), ((refl, (refl, refl)), (refl, (refl, refl))))
 
 -- "With B=12 it is clean to tick 90"
 pub larger-clean : deadlineRunAnswer (feedWorking 7 12) 90 .outcome ≡ Clean

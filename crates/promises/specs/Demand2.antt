@@ -13,7 +13,9 @@
 --                            "smallest capacities", as 000 and 004 write them; the naming count of demand 3; the capacity in force and the margin
 --   sumOf, load, load-exact, load-within
 --                            "load"
---   indexBefore, deadline-when, deadline-source, deadline-next
+--   index c i k j, deadline c i k
+--                            N_j's index on the way down from N_i's k, and the deadline that it leads to (Deadlines)
+--   indexBefore, index-asked, index-next, deadline-when, deadline-is, deadline-source, deadline-next
 --                            "deadlines"
 --   May c s i, StateSound c s
 --                            9, 11 and 12 let N_i fire in s; s passes 17 (Runs)
@@ -27,39 +29,53 @@
 --                            "both kinds of run", the immediate one: accepted when; its firings, and that they are by the rule; its exact counts
 --   DeadlineRuns c T, ticksFrom c T s
 --                            the deadline run is not refused; T ticks as their calls answer them (ByTicks)
---   begun, worked, chosen, finished, instants, onward, clean, ranAs
---                            the steps of a tick, 01's instants, what follows a clean one, and the answer of a run that no check refused (Ticks)
---   Ticking c s, Best, next s i, over c s i
---                            no check refuses the tick; earliest, ties nearest the sink; the index of N_i's next firing; N_i is over threshold (Ticks, Runs)
---   limit, most, longest     4,294,967,295; 1,000,000 firings; 1,000,000 ticks
---   deadline-run-when, deadline-run-is, by-ticks, tick-when, tick-is, tick-ends, thirteen-when, chosen-is
---                            the deadline run: accepted when; by 01's instants; tick by tick; one tick; what an outcome leaves; 13; and the node that works
+--   ranAs x                  the answer of a call that no check refused and that ends with x, an outcome with the state that is left (Ticks)
+--   OneTick c s x, TicksTo c T s x
+--                            one tick of s, and T of them as far as they are clean, end with x (Ticks)
+--   Spills, Lacks c s i, TickOnce c s t
+--                            the source is due and has no room; after its step N_i is the lowest node over threshold with an index past the limit on its way; t is
+--                            what a clean tick leaves of s, field by field (Ticks)
+--   Ends c T o               the run up to o's instant, before T, is clean, and the tick from there ends with o (Ticks)
+--   Waits c s, total c s, HowMany P T m
+--                            a node is over threshold after the source's step; the ticks that all nodes have worked; m of the numbers below T have P (Ticks)
+--   deadline-run-when, deadline-run-is, by-ticks, run-ends
+--                            the deadline run: accepted when; what it answers; the same tick by tick; and its first instant
+--   run-source, run-work     of a clean one: how often the source has fired, and how long the others have worked
+--   tick-when, tick-is, tick-overflows, -lacks, -cleans, -leaves, -ends, source-fires, source-rests
+--                            one tick: accepted when; what it answers; each outcome exactly when; and what it leaves
+--   coded a, flat a          the answer a of a tick, and of a deadline run, as C has it (Flat)
+--   Told, tick-told, run-told
+--                            what C is told of them
 --   reads-back, writes-packed, packed-is-itself
 --                            "Reading a written chain file gives the chain back; writing a chain that was read gives the packed file"
 use mathlib.Core.Path.{_≡_, refl, sym, ap, subst, _∙_}
-use mathlib.Core.Logic.{_↔_, _≢_, Iff·trans, Iff·and, Iff·rfl}
+use mathlib.Core.Logic.{_↔_, _≢_, _⊎_, inr, ⊎-elim, Iff·trans, Iff·and, Iff·rfl}
 use mathlib.Core.List.{List, _++_}
 use Prim.Native.Nat.{ℕ, zero, suc, _+_, _-_, _*_, _/_, _≤_, _<_, _∣_}
 use native.Mathlib.Nat.{sub-zero}
 use native.Mathlib.Omega.{arith}
 use lib.IntN.{pos, _+ℤ_}
 use lib.ListN.{length, take, drop, replicate}
+use borrow.Author.Tests.{le-leb}
 use Rattle.ardenquill.specs.Chains as chains
-use Rattle.ardenquill.specs.Chains.{rowOf, workOf, trimmed, refused, Sound}
+use Rattle.ardenquill.specs.Chains.{rowOf, workOf, trimmed, Sound}
 use Rattle.ardenquill.specs.Files.{countOf, queuesAt, nodesAt, readAnswer, packedLength, packed, writeRefusal, Output, Bytes, packedFile, read-of-write, write-of-read, packed-again, chainOf, AcceptedFile, read-accepts, write-accepts}
-use Rattle.ardenquill.specs.Analyses.{ceil, gcd, gcd-pos-left, residue, residue-000, residue-004, naming, common, nextX, nextY, xOf, yOf, y-multiple, busyIn, limit, analysisOf, analyseAnswer, Accepted, capacity-minimum, capacity-written, margin-unwritten, margin-balance}
+use Rattle.ardenquill.specs.Analyses.{ceil, gcd, gcd-pos-left, residue, residue-000, residue-004, naming, common, nextX, nextY, xOf, yOf, y-multiple, busyIn, analysisOf, analyseAnswer, Accepted, capacity-minimum, capacity-written, margin-unwritten, margin-balance}
 use Rattle.ardenquill.specs.Runs as runs
-use Rattle.ardenquill.specs.Runs.{countAt, heldAt, freshRun, fired, over, May, StateSound, Whole, Firing, firing-is, fireAnswer, fire-accepts, fire-accepted, count-fired, count-other, held-output, held-other}
+use Rattle.ardenquill.specs.Runs.{countAt, heldAt, freshRun, fired, May, StateSound, Whole, Firing, firing-is, fireAnswer, fire-accepts, fire-accepted, count-fired, count-other, held-output, held-other}
 use Rattle.ardenquill.specs.Histories.{times}
 use Rattle.ardenquill.specs.Immediate as immediate
-use Rattle.ardenquill.specs.Immediate.{F, fires, fires-below, fires-from, schedule, Follows, rule, most, immediateAnswer, immediate-accepts, permitted, counts-are-F}
+use Rattle.ardenquill.specs.Immediate.{F, fires, fires-below, fires-from, schedule, Follows, rule, immediateAnswer, immediate-accepts, permitted, counts-are-F}
 use Rattle.ardenquill.specs.Deadlines.{earlier, earlier-some, deadline, index, answeredDue, deadlineAnswer, deadline-accepts, deadline-due}
-use Rattle.ardenquill.specs.Ticks.{clean, onward, next, chosen, worked, begun, advanced, finished, tick, instants, longest, outcomeOf, tickAnswer, deadlineRunAnswer, ranAs, Ticking, ticking-is, tick-ran, deadline-run-accepts, Best, chosen-best, lacking, FirstLacking, lacking-exact, outcome-stays}
-use Rattle.ardenquill.specs.Records.{Chain, ChainAnswer, LengthAnswer, Analysis, Run, Clean}
+use Rattle.ardenquill.specs.Ticks as ticks
+use Rattle.ardenquill.specs.Ticks.{kindOf, tickOf, atOf, outcomeOf, tickAnswer, deadlineRunAnswer, ranAs, tick-accepts, deadline-run-accepts, TickOnce, once-counts, once-keeps, Spills, Lacks, OneTick, one-overflows, one-lacks, one-cleans, one-stays, one-leaves, TicksTo, answer-one, answer-exactly, Ends, HowMany, total, Waits}
+use Rattle.ardenquill.specs.Flat.{coded, flat}
+use Rattle.ardenquill.specs.Records.{Chain, ChainAnswer, LengthAnswer, Analysis, Run, Outcome, Clean, Overflowed, NoDeadline, Ticked, TickAnswer}
 use Rattle.ardenquill.specs.Reports.{reportText, reportRefusal, report-accepts}
 use Rattle.promises.specs.Replay.{pOf, τOf, cOf, Accepts, line, rateX, rateY, replayAnswer, Fires, Ample, Low, NearestFirst, Runs, accepts-is, fires-is}
-use Rattle.promises.specs.Laws.{report-is, x-is, y-is, by-is, capacity-is, rate-x-is, rate-y-is, last, minimum-by, minimum-as, largest-multiple, may-run-is, index-down, taken, state-is, moment, follows-at, parts, sound, ends-in, keeps, fed-by, minimum-is, margin-is, output-silent}
-use Rattle.promises.specs.ByTicks.{DeadlineRuns, ticksFrom, answer-is, ticks-are-run}
+use Rattle.promises.specs.Laws.{report-is, x-is, y-is, by-is, capacity-is, rate-x-is, rate-y-is, last, minimum-by, minimum-as, largest-multiple, may-run-is, index-down, taken, state-is, moment, follows-at, parts, sound, ends-in, keeps, fed-by, minimum-is, margin-is, output-silent, code-overflowed, code-undated, code-clean}
+use Rattle.promises.specs.ByTicks.{DeadlineRuns, ticksFrom, ticks-are-run}
+use Rattle.promises.specs.Demand1.{tick-stays, deadline-run-empty}
 
 -- 01's "a chain it doesn't refuse is accepted": its fields in their ranges, no consume above its threshold, every rate within the limit, and no overload
 pub analyse-when : (c : Chain) → Accepts c ↔ Accepted c
@@ -163,12 +179,27 @@ module _ (c : Chain) (ok : Accepts c) where
 abbrev pub indexBefore : Chain → ℕ → ℕ → ℕ
 indexBefore c i k = ((k - 1) * cOf c i + line c i .capacity) / pOf c i + 1
 
+-- the indices on the way down from N_i's k: its own is k, and from N_(i+1) on down they are those of N_i for the index before
+pub index-asked : (c : Chain) (i k : ℕ) → index c i k i ≡ k
+unfolding index
+index-asked c zero k = refl
+index-asked c (suc i) k = simp (le-leb (suc i) (suc i) (omega arith))
+
+pub index-next : (c : Chain) → Accepts c → (i k j : ℕ) → i < c .n → j ≤ i → index c (suc i) k j ≡ index c i (indexBefore c i k) j
+unfolding earlier
+index-next c ok i k j l m = index-down c i k j m ∙ ap (λ (h : ℕ). index c i h j) (rw (capacity-is c (accepts-is c .0 ok) i l))
+
 -- "deadlines .. equal the published Processing Graph Method rules as document 01 condenses them" (000, definition 1): a question is answered exactly when the
 -- chain may run, node and firing exist, and no index on the way down passes the limit
 pub deadline-when : (c : Chain) (i k : ℕ)
-    → (deadlineAnswer c i k .number ≡ 0) ↔ ((Accepts c × ((j : ℕ) → j < c .n → Ample c j)) × (((i ≤ c .n) × (1 ≤ k)) × ((j : ℕ) → j ≤ i → index c i k j ≤ limit)))
+    → (deadlineAnswer c i k .number ≡ 0) ↔ ((Accepts c × ((j : ℕ) → j < c .n → Ample c j)) × (((i ≤ c .n) × (1 ≤ k)) × ((j : ℕ) → j ≤ i → index c i k j ≤ 4294967295)))
 unfolding deadlineAnswer answeredDue
 deadline-when c i k = Iff·trans (deadline-accepts c i k) (Iff·and (may-run-is c) Iff·rfl)
+
+-- it is the deadline by which a tick chooses
+pub deadline-is : (c : Chain) (i k : ℕ) → deadlineAnswer c i k .number ≡ 0 → deadlineAnswer c i k .due ≡ deadline c i k
+unfolding deadlineAnswer answeredDue
+deadline-is c i k asked = deadline-due c i k asked
 
 -- "(k−1)×y for N_0"
 pub deadline-source : (c : Chain) (k : ℕ) → deadlineAnswer c 0 k .number ≡ 0 → deadlineAnswer c 0 k .due ≡ (k - 1) * c .period
@@ -221,7 +252,7 @@ module _ (c : Chain) (s : Run) (i : ℕ) where
 -- "both kinds of run equal the published Processing Graph Method rules as document 01 condenses them", the immediate one: it is accepted exactly when the chain
 -- is, no capacity is below the minimum, and no count passes the limit
 pub immediate-when : (c : Chain) (k : ℕ)
-    → Runs c k ↔ ((Accepts c × ((j : ℕ) → j < c .n → Ample c j)) × ((i : ℕ) → i ≤ c .n → F c k i ≤ most))
+    → Runs c k ↔ ((Accepts c × ((j : ℕ) → j < c .n → Ample c j)) × ((i : ℕ) → i ≤ c .n → F c k i ≤ 1000000))
 unfolding immediateAnswer runs.answered
 immediate-when c k = Iff·trans (immediate-accepts c k) (Iff·and (may-run-is c) Iff·rfl)
 
@@ -267,42 +298,102 @@ module _ (c : Chain) (k : ℕ) (ran : Runs c k) where
 
 -- "both kinds of run equal the published Processing Graph Method rules as document 01 condenses them", the deadline run: it is accepted exactly when the chain is,
 -- no capacity is below the minimum, and "T at most 1,000,000"
-pub deadline-run-when : (c : Chain) (T : ℕ) → DeadlineRuns c T ↔ ((Accepts c × ((j : ℕ) → j < c .n → Ample c j)) × (T ≤ longest))
+pub deadline-run-when : (c : Chain) (T : ℕ) → DeadlineRuns c T ↔ ((Accepts c × ((j : ℕ) → j < c .n → Ample c j)) × (T ≤ 1000000))
 unfolding deadlineRunAnswer outcomeOf
 deadline-run-when c T = Iff·trans (deadline-run-accepts c T) (Iff·and (may-run-is c) Iff·rfl)
 
--- it is by 01's instants: "At each instant t below T: the firing finished by then takes effect; then the source fires ..; then .. works one tick"; "At instant T only
--- a finished firing takes effect"
-pub deadline-run-is : (c : Chain) (T : ℕ) → DeadlineRuns c T → deadlineRunAnswer c T ≡ ranAs (instants c T (freshRun c))
-deadline-run-is = answer-is
+module _ (c : Chain) (T : ℕ) (ran : DeadlineRuns c T) where
+  -- "a run of T ticks from a fresh start": it answers what T ticks end with, as far as they are clean, and nothing else
+  pub deadline-run-is : (x : Ticked) → (deadlineRunAnswer c T ≡ ranAs x) ↔ TicksTo c T (freshRun c) x
+  deadline-run-is = ticks.run-answers c T ran
 
--- and answers what T ticks, one after the other, answer
-pub by-ticks : (c : Chain) (T : ℕ) → DeadlineRuns c T → deadlineRunAnswer c T ≡ ticksFrom c T (runs.freshAnswer c .run)
-by-ticks = ticks-are-run
+  -- which is what T ticks, one after the other, answer
+  pub by-ticks : deadlineRunAnswer c T ≡ ticksFrom c T (runs.freshAnswer c .run)
+  by-ticks = ticks-are-run c T ran
+
+  -- 13's "first instant when", and an overflow's: it ends at t so exactly when the run of t ticks is clean and the tick from the state that it leaves says so
+  pub run-ends : (o : Outcome) → o ≢ Clean → (deadlineRunAnswer c T .outcome ≡ o) ↔ Ends c T o
+  run-ends = ticks.run-ends c T ran
+
+  -- "it ends clean"
+  module _ (z : deadlineRunAnswer c T .outcome ≡ Clean) where
+    -- "the source fires if y divides t": it has fired T/y times, rounded up
+    pub run-source : countAt (deadlineRunAnswer c T .run) 0 ≡ ceil T (c .period)
+    run-source = ticks.run-source c T ran z
+
+    -- "the over-threshold node .. works one tick": what N_1 to N_n have worked, e for each firing and the work done of the next, is one tick for each instant
+    -- below T at which one of them was over threshold after the source's step
+    pub run-work : HowMany (λ t. Waits c (deadlineRunAnswer c t .run)) T (total c (deadlineRunAnswer c T .run))
+    run-work = ticks.run-work c T ran z
 
 module _ (c : Chain) (s : Run) where
-  -- a tick is accepted exactly when the chain is, its capacities are enough, the state passes 17, and clock and counts can grow
-  pub tick-when : (tickAnswer c s .number ≡ 0) ↔ Ticking c s
+  -- a tick is accepted exactly when the chain is, no capacity is below the minimum, the state passes 17, and neither a "clock of 1,000,000 or more" nor "a count at
+  -- 4,294,967,295" is 9
+  pub tick-when : (tickAnswer c s .number ≡ 0) ↔ ((Accepts c × ((j : ℕ) → j < c .n → Ample c j)) × (StateSound c s × ((s .clock < 1000000) × ((i : ℕ) → i ≤ c .n → countAt s i ≢ 4294967295))))
   unfolding tickAnswer outcomeOf
-  tick-when = ticking-is c s
+  tick-when = Iff·trans (tick-accepts c s) (Iff·and (may-run-is c) Iff·rfl)
 
-  -- "One tick at clock t is the source's step, one tick of work, the clock going to t+1, and the effect at t+1 of a firing then finished"; 13 is looked for after the
-  -- source's step (begun)
-  pub tick-is : tickAnswer c s .number ≡ 0 → tickAnswer c s ≡ ranAs (onward (onward (begun c s) (λ u. clean (worked u (chosen c u)))) (finished c))
-  unfolding tickAnswer outcomeOf tick advanced
-  tick-is ok = tick-ran c s ok
+  -- one that is, of a state of 17 counts, 16 queues and 16 nodes' work, as every state is
+  module _ (w : Whole s) (ok : tickAnswer c s .number ≡ 0) where
+    -- "One tick at clock t is the source's step, one tick of work, the clock going to t+1, and the effect at t+1 of a firing then finished": it answers one such tick,
+    -- and nothing else
+    pub tick-is : (x : Ticked) → (tickAnswer c s ≡ ranAs x) ↔ OneTick c s x
+    tick-is = answer-exactly c s w ok
 
-  -- "the state being that before the production", and of 13 "that before the source's step": a tick that overflows or has no deadline leaves the state as it was
-  pub tick-ends : Whole s → tickAnswer c s .number ≡ 0 → tickAnswer c s .outcome ≢ Clean → tickAnswer c s .run ≡ s
-  tick-ends = outcome-stays c s
+    -- "overflowed at (tick, queue)": exactly when y divides the clock and queue 0 has no room, at the clock and at queue 0
+    pub tick-overflows : (t q : ℕ) → (tickAnswer c s .outcome ≡ Overflowed t q) ↔ (((t ≡ s .clock) × (q ≡ 0)) × ((c .period ∣ s .clock) × (line c 0 .capacity < heldAt s 0 + pOf c 0)))
+    tick-overflows t q =
+        let a : Accepted c = accepts-is c .0 (tick-when .0 ok .0 .0) in
+        rw (capacity-is c a 0 (a .chain .count .0)) (one-overflows (answer-one c s w ok) t q)
 
-  -- 13's "place the lowest such over-threshold node", whose "deadline can't be had"; s is the state after the source's step
-  pub thirteen-when : (L : ℕ) → (lacking c s ≡ refused 13 L) ↔ FirstLacking c s L
-  thirteen-when = lacking-exact c s
+    -- "13 .. when, after the source's step, an over-threshold node's deadline can't be had, place the lowest such over-threshold node"
+    pub tick-lacks : (t i : ℕ) → (tickAnswer c s .outcome ≡ NoDeadline t i) ↔ ((t ≡ s .clock) × Lacks c s i)
+    tick-lacks = one-lacks (answer-one c s w ok)
 
-  -- the node that works is "the over-threshold node whose next firing has the earliest deadline, ties to the one nearest the sink"
-  pub chosen-is : Best (λ i. deadline c i (next s i)) (over c s) (c .n) (chosen c s)
-  chosen-is = chosen-best c s
+    -- "it ends clean": exactly otherwise
+    pub tick-cleans : (tickAnswer c s .outcome ≡ Clean) ↔ ((Spills c s → ⊥) × ((i : ℕ) → Lacks c s i → ⊥))
+    tick-cleans = one-cleans (answer-one c s w ok)
+
+    -- "the state being that before the production", and of 13 "that before the source's step": a tick that overflows or has no deadline leaves the state as it was
+    pub tick-ends : tickAnswer c s .outcome ≢ Clean → tickAnswer c s .run ≡ s
+    tick-ends = one-stays (answer-one c s w ok)
+
+    module _ (z : tickAnswer c s .outcome ≡ Clean) where
+      -- a clean one leaves what the source's step, one tick of work and its effect make of the state, field by field
+      pub tick-leaves : TickOnce c s (tickAnswer c s .run)
+      tick-leaves = one-leaves (answer-one c s w ok) z
+
+      -- "the source fires if y divides t", and else does not
+      pub source-fires : (countAt (tickAnswer c s .run) 0 ≡ countAt s 0 + 1) ↔ (c .period ∣ s .clock)
+      source-fires = once-counts tick-leaves
+
+      pub source-rests : (countAt (tickAnswer c s .run) 0 ≡ countAt s 0) ↔ ((c .period ∣ s .clock) → ⊥)
+      source-rests = once-keeps tick-leaves
+
+-- what C is told of the answer a of a tick or a run: its number and place; kind 1, the tick and the queue exactly when it is overflowed; kind 2, the tick and the node
+-- exactly when a deadline can't be had; 0, 0, 0 exactly when it is clean or refused
+pub record Told (a : TickAnswer) (number place kind tick at : ℕ) : Type 0 where
+  pub numbered : (number ≡ a .number) × (place ≡ a .place)
+  pub overflowed : (t q : ℕ) → ((kind ≡ 1) × ((tick ≡ t) × (at ≡ q))) ↔ (a .outcome ≡ Overflowed t q)
+  pub undated : (t i : ℕ) → ((kind ≡ 2) × ((tick ≡ t) × (at ≡ i))) ↔ (a .outcome ≡ NoDeadline t i)
+  pub cleanly : ((kind ≡ 0) × ((tick ≡ 0) × (at ≡ 0))) ↔ ((a .number ≢ 0) ⊎ (a .outcome ≡ Clean))
+
+-- which its code, tick and place tell
+told : (a : TickAnswer) → (a .number ≢ 0 → a .outcome ≡ Clean) → Told a (a .number) (a .place) (kindOf (a .outcome)) (tickOf (a .outcome)) (atOf (a .outcome))
+told a refusal = record {
+  numbered = (refl, refl);
+  overflowed = λ t q. (code-overflowed (a .outcome) t q, λ e. rw e (refl, (refl, refl)));
+  undated = λ t i. (code-undated (a .outcome) t i, λ e. rw e (refl, (refl, refl)));
+  cleanly = (λ h. inr (code-clean (a .outcome) (h .0)), ⊎-elim (λ n. rw (refusal n) (refl, (refl, refl))) (λ e. rw e (refl, (refl, refl))));
+}
+
+-- of a tick
+pub tick-told : (c : Chain) (s : Run) → let r = coded (tickAnswer c s) in Told (tickAnswer c s) (r .number) (r .place) (r .kind) (r .tick) (r .at)
+tick-told c s = told (tickAnswer c s) (λ n. tick-stays c s n .0)
+
+-- and of a run, with the state that it leaves
+pub run-told : (c : Chain) (T : ℕ) → let r = flat (deadlineRunAnswer c T) in Told (deadlineRunAnswer c T) (r .number) (r .place) (r .kind) (r .tick) (r .at) × (r .run ≡ deadlineRunAnswer c T .run)
+run-told c T = (told (deadlineRunAnswer c T) (λ n. deadline-run-empty c T n .0), refl)
 
 -- "Reading a written chain file gives the chain back": a chain c that is written into lent bytes o, which become p; slots past n, of which the file has
 -- nothing, are zero in the chain that is read

@@ -13,6 +13,8 @@
 --                            of a permitted order: its chain, its firings, its state, the state at each moment, and that it is prompt
 --   quiet, parts, sound, ends-in, keeps
 --                            of an immediate run: its checks, what they leave to be known, and its state
+--   code-overflowed, -undated, -clean
+--                            an outcome by what C is told of it
 --   output-silent            a call that writes is not refused exactly when its checks are silent
 --   write-alike              chains that differ in slots past n only are written alike
 --   Each, Firings            something holds at each moment of a list, or of each of its firings, one by one
@@ -33,7 +35,8 @@ use Rattle.ardenquill.specs.Histories.{after, Permitted, Prompt, EachFiring}
 use Rattle.ardenquill.specs.Immediate as immediate
 use Rattle.ardenquill.specs.Immediate.{F, fires, Reached, schedule, Next, Follows, most, immediateRefusal, immediateAnswer, immediate-accepts, immediate-ran}
 use Rattle.ardenquill.specs.Deadlines.{earlier, index}
-use Rattle.ardenquill.specs.Records.{Refusal, Queue, Chain, LengthAnswer, QueueSize, Analysis, AnalysisAnswer, Run}
+use Rattle.ardenquill.specs.Ticks.{kindOf, tickOf, atOf}
+use Rattle.ardenquill.specs.Records.{Refusal, Queue, Chain, LengthAnswer, QueueSize, Analysis, AnalysisAnswer, Run, Outcome, Clean, Overflowed, NoDeadline}
 use Rattle.promises.specs.Replay.{pOf, τOf, cOf, Accepts, Ample, line, rateX, rateY, replayAnswer, Fires, LowAt, AtOnce, Runs, accepts-is, fires-is, fires-state, fires-before}
 
 -- the line of a queue of an accepted chain
@@ -173,6 +176,22 @@ module _ (c : Chain) (k : ℕ) (ran : Runs c k) where
   -- which keeps what firings keep
   pub keeps : Reached c (immediateAnswer c k .run)
   keeps = rw ends-in (immediate.reached sound k)
+
+-- an outcome by what C is told of it: its code, its tick, and its queue or node
+pub code-overflowed : (o : Outcome) (t q : ℕ) → (kindOf o ≡ 1) × ((tickOf o ≡ t) × (atOf o ≡ q)) → o ≡ Overflowed t q
+code-overflowed Clean t q h = absurd (omega (arith, h .0))
+code-overflowed (Overflowed a b) t q h = λ i. Overflowed (h .1 .0 i) (h .1 .1 i)
+code-overflowed (NoDeadline a b) t q h = absurd (omega (arith, h .0))
+
+pub code-undated : (o : Outcome) (t m : ℕ) → (kindOf o ≡ 2) × ((tickOf o ≡ t) × (atOf o ≡ m)) → o ≡ NoDeadline t m
+code-undated Clean t m h = absurd (omega (arith, h .0))
+code-undated (Overflowed a b) t m h = absurd (omega (arith, h .0))
+code-undated (NoDeadline a b) t m h = λ i. NoDeadline (h .1 .0 i) (h .1 .1 i)
+
+pub code-clean : (o : Outcome) → kindOf o ≡ 0 → o ≡ Clean
+code-clean Clean e = refl
+code-clean (Overflowed t q) e = absurd (omega (arith, e))
+code-clean (NoDeadline t i) e = absurd (omega (arith, e))
 
 -- a call that writes answers 0 exactly when its checks are silent
 pub output-silent : {r : Refusal} {t o p : List ℕ} {a : LengthAnswer} → Output r t o p a → (a .number ≡ 0) ↔ Silent r
