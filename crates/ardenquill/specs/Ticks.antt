@@ -10,13 +10,13 @@ pub use Rattle.instants.specs.Kept.{Running, TickStep, Countable, tick-step, be
 pub use Rattle.instants.specs.Lacking.{Within, Past, FirstLacking, lacking-exact, lacking-silent}
 pub use Rattle.instants.specs.Fresh.{fresh-running, fresh-rests, run-is-ticks, Paced, fresh-paced, paced-countable, tick-paced, ticks-paced}
 pub use Rattle.instants.specs.Best.{First, Best, choose-best, best-unique, choose-is, chosen-best, chosen-only, choose-shift, chosen-shift}
-pub use Rattle.instants.specs.Spill.{room-after-choice, finish-never-spills, ended-stays, outcome-stays, ticks-never-spill, run-never-spills}
+pub use Rattle.instants.specs.Spill.{room-after-choice}
 pub use Rattle.instants.specs.Source.{divides-is, Due, Full, Fits, source-spills, source-fires, source-rests, SourceOnce, source-only}
 pub use Rattle.instants.specs.Outcomes.{Dated, lacking-once, lacking-dated}
 pub use Rattle.instants.specs.Once.{Works, works-is, Effect, WorkOnce, work-only, TickOnce, once-counts, once-keeps}
-pub use Rattle.instants.specs.Exactly.{Spills, Lacks, Spilled, Lacked, Stopped, Cleaned, OneTick, one-overflows, one-lacks, one-cleans, one-stays, one-leaves, clean-only, one-tick-only, tick-exactly, Then, ticks-to-only, ticks-exactly, run-exactly}
+pub use Rattle.instants.specs.Exactly.{Spills, Lacks, Spilled, Lacked, Stopped, Cleaned, OneTick, one-overflows, one-lacks, one-cleans, one-stays, one-leaves, clean-only, one-tick-only, tick-exactly, finish-never-spills, Then, ticks-to-only, ticks-exactly, run-exactly, ticks-never-spill, run-never-spills}
 unfoldable pub use Rattle.instants.specs.Exactly.{TicksTo}
-pub use Rattle.instants.specs.Answers.{left, answer-one, answer-exactly, answer-ends, run-may, ran-to, run-answers, run-start, at-clock, run-next, run-stops, run-stays, run-before, Ends, run-ends, CleanStep, along}
+pub use Rattle.instants.specs.Answers.{left, answer-one, answer-exactly, answer-ends, paced-ticking, run-may, ran-to, run-answers, run-start, at-clock, run-next, run-stops, run-stays, run-before, Ends, run-ends, CleanStep, along}
 unfoldable pub use Rattle.instants.specs.Totals.{spentOn, HowMany}
 pub use Rattle.instants.specs.Totals.{workedBy, total, SomeOver, some-over, Waits, tick-total, how-many-one, run-clock, run-source, run-work}
 unfoldable pub use Rattle.traces.specs.Trace.{tracing, sourceEntry, finishEntry, finishTrace, tickTrace, trace}

@@ -2,6 +2,7 @@
 --   left a                     what an answer says of a tick: its outcome, and the state that it leaves
 --   answer-one, answer-exactly a tick that is not refused answers one tick, and nothing else
 --   answer-ends                what ends it, ends it at its clock
+--   paced-ticking              no check refuses a tick of a run before its longest end
 --   run-answers                a deadline run that is not refused answers what T ticks of a fresh start end with, and nothing else
 --   run-may, ran-to            its chain, its capacities and its length; and what every shorter one answers
 --   run-start, -next, -stops   of no ticks it answers a fresh start; of one more, what the tick from its state answers, or the same where it was not clean
@@ -21,7 +22,7 @@ use Rattle.sizing.specs.Accepted.{Accepted}
 use Rattle.state.specs.State.{freshRun}
 use Rattle.state.specs.declared.Run.{Run}
 use Rattle.past.specs.Runs.{Whole}
-use Rattle.instants.specs.Steps.{tickOf, onward, clean, tick, ticks, instants}
+use Rattle.instants.specs.Steps.{tickOf, clean, tick, ticks}
 use Rattle.instants.specs.Checks.{longest, tickRefusal, outcomeOf, tickAnswer, deadlineRunAnswer}
 use Rattle.instants.specs.Refusals.{Ticking, ticking-is, ranAs, tick-ran, deadline-run-accepts, deadline-run-ran}
 use Rattle.instants.specs.Runs.{clean-or, onward-goes, onward-stops, ticks-none, ticks-last}
@@ -69,6 +70,10 @@ module _ (c : Chain) (s : Run) (w : Whole s) (ok : tickAnswer c s .number ≡ 0)
   answer-ends (Overflowed t q) n e = one-overflows answer-one t q .0 e .0 .0
   answer-ends (NoDeadline t i) n e = one-lacks answer-one t i .0 e .0
 
+-- no check refuses a tick of a run before its longest end
+pub paced-ticking : {c : Chain} {s : Run} → ((j : ℕ) → j < c .n → Enough c j) → Paced c s → s .clock < longest → Ticking c s
+paced-ticking enough p l = record { chain = p .running .chain; enough = enough; state = p .running .state; clock = l; countable = paced-countable p (omega arith) }
+
 -- "the first instant when": the run up to the instant of o is clean, and the tick from the state that it leaves ends with o
 pub record Ends (c : Chain) (T : ℕ) (o : Outcome) : Type 0 where
   pub before : tickOf o < T
@@ -110,13 +115,7 @@ module _ (c : Chain) (T : ℕ) (ok : deadlineRunAnswer c T .number ≡ 0) where
   silent-at : (t : ℕ) → t < T → deadlineRunAnswer c t .outcome ≡ Clean → Silent (tickRefusal c (deadlineRunAnswer c t .run))
   silent-at t l h =
       let k = at-clock t (omega arith) h in
-      ticking-is c (deadlineRunAnswer c t .run) .1 (record {
-        chain = run-may .0 .0;
-        enough = run-may .0 .1;
-        state = k .0 .running .state;
-        clock = omega (arith, k .1, run-may .1);
-        countable = paced-countable (k .0) (omega (arith, k .1, run-may .1));
-      })
+      ticking-is c (deadlineRunAnswer c t .run) .1 (paced-ticking (run-may .0 .1) (k .0) (omega (arith, k .1, run-may .1)))
 
   -- and of one tick more it answers what that tick does
   pub run-next : (t : ℕ) → t < T → deadlineRunAnswer c t .outcome ≡ Clean → deadlineRunAnswer c (suc t) ≡ tickAnswer c (deadlineRunAnswer c t .run)

@@ -9,11 +9,14 @@
 --                              is clean exactly elsewhere
 --   one-stays, one-leaves      an overflow and 13 leave the state as it was, and a clean one leaves what TickOnce says
 --   clean-only, one-tick-only  of any chain and state there is at most one such x
---   tick-exactly               of a chain that passes 8 and a state that passes 17 the tick is that one
+--   is-one, tick-exactly       of a chain that passes 8 and a state that passes 17 the tick is that one
+--   finish-never-spills        so an overflow of a tick is the source's, at the tick's own clock
 --   Then c s R                 R holds of the state that a clean tick of s leaves
 --   TicksTo c T s x            T ticks of s, as far as they are clean, end with x
 --   ticks-to-only              there is at most one such x
 --   ticks-exactly, run-exactly so many ticks, and a deadline run, end with that
+--   ticks-never-spill, run-never-spills
+--                              so an overflow of them is at queue 0
 use mathlib.Core.Path.{_≡_, refl, sym, ap, subst, _∙_}
 use mathlib.Core.Logic.{_↔_, _⊎_, inl, inr, ⊎-elim, Iff·trans}
 use Prim.Native.Nat.{ℕ, zero, suc, _<_}
@@ -166,6 +169,10 @@ module _ {c : Chain} (enough : (j : ℕ) → j < c .n → Enough c j) {s : Run} 
   pub tick-exactly : (x : Ticked) → (tick c s ≡ x) ↔ OneTick c s x
   tick-exactly x = (λ e. subst (OneTick c s) e is-one, λ h. one-tick-only (tick c s) x is-one h)
 
+  -- no firing that is finished overflows: "overflowed at (tick, queue)" is at the tick's own clock, and the queue is the source's
+  pub finish-never-spills : (t q : ℕ) → tick c s .outcome ≡ Overflowed t q → (t ≡ s .clock) × (q ≡ 0)
+  finish-never-spills t q e = one-overflows is-one t q .0 e .0
+
 -- R holds of the state that a clean tick of s leaves
 pub record Then (c : Chain) (s : Run) (R : Run → Type 0) : Type 0 where
   pub next : Run
@@ -184,6 +191,12 @@ ticks-to-only c (suc T) s x y = ⊎-elim
     (λ a. ⊎-elim (λ b. stopped-only a b) (λ b. absurd (stop-clean a (b .tick))))
     (λ a. ⊎-elim (λ b. absurd (stop-clean b (a .tick)))
     (λ b. ticks-to-only c T (a .next) x y (a .holds) (subst (λ (t : Run). TicksTo c T t y) (clean-only (b .next) (a .next) (b .tick) (a .tick)) (b .holds))))
+
+-- an overflow of so many ticks is at queue 0
+to-queue-0 : (c : Chain) (T : ℕ) (s : Run) (x : Ticked) (t q : ℕ) → x .outcome ≡ Overflowed t q → TicksTo c T s x → q ≡ 0
+unfolding TicksTo
+to-queue-0 c zero s x t q e = λ h. absurd (unclean-overflow (sym e ∙ ap (λ (y : Ticked). y .outcome) h))
+to-queue-0 c (suc T) s x t q e = ⊎-elim (λ a. one-overflows (inl a) t q .0 e .0 .1) (λ a. to-queue-0 c T (a .next) x t q e (a .holds))
 
 module _ {c : Chain} (enough : (j : ℕ) → j < c .n → Enough c j) where
   is-many : (T : ℕ) {s : Run} → Running c s → TicksTo c T s (ticks c T s)
@@ -208,3 +221,9 @@ module _ {c : Chain} (enough : (j : ℕ) → j < c .n → Enough c j) where
   -- "a run of T ticks from a fresh start"
   pub run-exactly : Accepted c → (T : ℕ) (x : Ticked) → (instants c T (freshRun c) ≡ x) ↔ TicksTo c T (freshRun c) x
   run-exactly a T x = Iff·trans (λ e. sym (run-is-ticks a T) ∙ e, λ e. run-is-ticks a T ∙ e) (ticks-exactly T (fresh-running a) x)
+
+  pub ticks-never-spill : (T : ℕ) {s : Run} → Running c s → (t q : ℕ) → ticks c T s .outcome ≡ Overflowed t q → q ≡ 0
+  ticks-never-spill T {s} r t q e = to-queue-0 c T s (ticks c T s) t q e (is-many T r)
+
+  pub run-never-spills : Accepted c → (T t q : ℕ) → instants c T (freshRun c) .outcome ≡ Overflowed t q → q ≡ 0
+  run-never-spills a T t q e = ticks-never-spill T (fresh-running a) t q (ap (λ (x : Ticked). x .outcome) (sym (run-is-ticks a T)) ∙ e)

@@ -18,7 +18,6 @@ use lib.ListN.{getD, length-set}
 use lib.Seq.{getD-set-same, getD-set-other, ext-getD}
 use Rattle.chain.specs.Record.{rowOf, workOf}
 use Rattle.chain.specs.declared.Chain.{Chain}
-use Rattle.sizing.specs.Checks.{Enough}
 use Rattle.state.specs.State.{countAt, heldAt, doneAt, same-run}
 use Rattle.state.specs.Fired.{fired, Over, over-enough, count-fired, count-other, held-output, held-input, held-other, held-sink}
 use Rattle.state.specs.Checks.{over, over-true}
@@ -26,13 +25,12 @@ use Rattle.state.specs.declared.Run.{Run}
 use Rattle.past.specs.Runs.{Whole}
 use Rattle.deadlines.specs.Deadline.{deadline}
 use Rattle.instants.specs.Best.{Best, chosen-best, chosen-only}
-use Rattle.instants.specs.Steps.{clean, chosen, withDone, next, worked, finish, finished, tick}
-use Rattle.instants.specs.Kept.{Running, finish-cases, worked-counts, worked-held, worked-clock, worked-other, worked-same, works-on, works-running, works-ends, cleared-running, unclean-overflow, unclean-undated}
-use Rattle.instants.specs.Spill.{finish-fits}
+use Rattle.instants.specs.Steps.{chosen, withDone, next, worked, finish, finished}
+use Rattle.instants.specs.Kept.{Running, finish-cases, worked-counts, worked-held, worked-clock, worked-other, worked-same, works-on, works-running, works-ends, cleared-running, unclean-overflow}
 use Rattle.instants.specs.declared.Outcome.the-variants.{Clean}
 use Rattle.instants.specs.declared.Ticked.{Ticked}
-use Rattle.instants.specs.Source.{Due, Fits, SourceOnce, fired-whole, source-only}
-use Rattle.instants.specs.Outcomes.{Dated, lacking-dated, tick-three}
+use Rattle.instants.specs.Source.{Due, Fits, SourceOnce, fired-whole}
+use Rattle.instants.specs.Outcomes.{Dated}
 
 -- "the over-threshold node whose next firing has the earliest deadline, ties to the one nearest the sink"; 0 where no node but the source is over threshold
 pub record Works (c : Chain) (u : Run) (w : ℕ) : Type 0 where

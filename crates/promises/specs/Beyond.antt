@@ -29,12 +29,12 @@ use Rattle.ardenquill.specs.Histories as histories
 use Rattle.ardenquill.specs.Histories.{times, after, at-some}
 use Rattle.ardenquill.specs.Immediate as immediate
 use Rattle.ardenquill.specs.Immediate.{Reached, reached-after, below-minimum, schedule, immediateAnswer}
-use Rattle.ardenquill.specs.Ticks.{numberOf, valuesOf, kindOf, onward, ticks, instants, deadlineRunAnswer, ranAs, run-is-ticks, ticks-more, nodes, trace, resting, run-traced, run-never-spills}
+use Rattle.ardenquill.specs.Ticks.{numberOf, valuesOf, kindOf, onward, ticks, instants, deadlineRunAnswer, ranAs, run-is-ticks, ticks-more, nodes, trace, resting, run-traced, run-never-spills, run-may}
 use Rattle.ardenquill.specs.Flat.{flat}
 use Rattle.ardenquill.specs.Records.{Chain, Run, Outcome, Clean, Overflowed, NoDeadline, Ticked, TickAnswer}
 use Rattle.promises.specs.Replay.{pOf, cOf, line, replayAnswer, Fires, Sometime, Ample, LowAt, Low, AtOnce, Runs, fires-is, fires-state}
 use Rattle.promises.specs.Laws.{minimum-is, by-is, accepted, permits, state-is, moment, prompts, Each, each-at, Firings, firing-at}
-use Rattle.promises.specs.ByTicks.{DeadlineRuns, may-run, answer-is}
+use Rattle.promises.specs.ByTicks.{DeadlineRuns, answer-is}
 use Rattle.promises.specs.Demand2.{immediate-fires, immediate-state, immediate-rule, immediate-source, immediate-ends}
 use Rattle.promises.specs.Demand3 as demand
 use Rattle.promises.specs.Demand3.{nearest-at-once}
@@ -72,8 +72,8 @@ module _ (c : Chain) (T : ℕ) (ran : DeadlineRuns c T) where
   -- its firings and its state
   traced : Fires c (firings c T) × (after c (freshRun c) (firings c T) ≡ resting (deadlineRunAnswer c T .run))
   traced =
-      let a : Accepted c = may-run c T ran .0 .0 in
-      let t = run-traced a T (may-run c T ran .1) in
+      let a : Accepted c = run-may c T ran .0 .0 in
+      let t = run-traced a T (run-may c T ran .1) in
       (fires-is c (firings c T) .1 (a, t .0), t .1 ∙ ap (λ (r : TickAnswer). resting (r .run)) (sym (answer-is c T ran)))
 
   -- manual firing accepts each of them
@@ -102,13 +102,13 @@ module _ (c : Chain) (T : ℕ) (ran : DeadlineRuns c T) where
     where
       by : (o : Outcome) → deadlineRunAnswer c T .outcome ≡ o → numberOf o ≡ 0 → valuesOf o ≡ t ∷ q ∷ [] → q ≡ 0
       by Clean e z v = absurd (let n : _≡_ {A = ℕ} 0 2 = ap length v in omega arith)
-      by (Overflowed u r) e z v = sym (ap (λ (l : List ℕ). getD l 1 0) v) ∙ run-never-spills (may-run c T ran .0 .1) (may-run c T ran .0 .0) T u r (ap (λ (a : TickAnswer). a .outcome) (sym (answer-is c T ran)) ∙ e)
+      by (Overflowed u r) e z v = sym (ap (λ (l : List ℕ). getD l 1 0) v) ∙ run-never-spills (run-may c T ran .0 .1) (run-may c T ran .0 .0) T u r (ap (λ (a : TickAnswer). a .outcome) (sym (answer-is c T ran)) ∙ e)
       by (NoDeadline u i) e z v = absurd (omega arith)
 
 -- a run of a+b ticks is a run of a ticks carried on for b
 pub carried-on : (c : Chain) (a b : ℕ) → DeadlineRuns c (a + b) → deadlineRunAnswer c (a + b) ≡ ranAs (onward (instants c a (freshRun c)) (ticks c b))
 carried-on c a b ran =
-    let k : Accepted c = may-run c (a + b) ran .0 .0 in
+    let k : Accepted c = run-may c (a + b) ran .0 .0 in
     answer-is c (a + b) ran
     ∙ ap ranAs (run-is-ticks k (a + b) ∙ ticks-more c a b (freshRun c) ∙ ap (λ (x : Ticked). onward x (ticks c b)) (sym (run-is-ticks k a)))
 

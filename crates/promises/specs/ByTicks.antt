@@ -3,7 +3,7 @@
 --   DeadlineRuns c T         the deadline run of T ticks is not refused
 --   follows, carryOn r f, ticksFrom c T s
 --                            T ticks from s: the first refusal, or the first outcome that is not clean, ends it
---   may-run, answer-is       a run that is not refused: its chain, its capacities and its length; and what it answers, which is what its instants leave
+--   answer-is                a run that is not refused answers what its instants leave
 --   ticks-answer             T ticks within the limit answer what T ticks leave
 --   ticks-are-run            so the run of T ticks answers what they do
 use mathlib.Core.Path.{_≡_, refl, sym, ap, _∙_}
@@ -11,7 +11,7 @@ use Prim.Native.Nat.{ℕ, zero, suc, _+_, _≤_, _<_}
 use native.Mathlib.Omega.{arith}
 use Rattle.ardenquill.specs.Analyses.{Accepted, analyse-accepts, Enough}
 use Rattle.ardenquill.specs.Runs.{freshRun, freshAnswer, fresh-state}
-use Rattle.ardenquill.specs.Ticks.{goes, onward, tick, ticks, instants, longest, outcomeOf, tickAnswer, deadlineRunAnswer, ranAs, Ticking, ticking-is, tick-ran, deadline-run-accepts, deadline-run-ran, run-is-ticks, Paced, fresh-paced, tick-paced, paced-countable, tick-step}
+use Rattle.ardenquill.specs.Ticks.{goes, onward, tick, ticks, instants, longest, tickAnswer, deadlineRunAnswer, ranAs, ticking-is, tick-ran, deadline-run-accepts, deadline-run-ran, run-is-ticks, Paced, fresh-paced, tick-paced, paced-ticking, run-may, tick-step}
 use Rattle.ardenquill.specs.Records.{Chain, Run, Outcome, Clean, Overflowed, NoDeadline, Ticked, TickAnswer}
 
 -- the deadline run is not refused
@@ -46,34 +46,25 @@ carried x f g next = by (x .outcome) next
     by (NoDeadline t i) h = refl
 
 module _ {c : Chain} (enough : (j : ℕ) → j < c .n → Enough c j) where
-  -- no check refuses a tick of a run within the limit
-  ticking : {s : Run} → Paced c s → s .clock < longest → Ticking c s
-  ticking p l = record { chain = p .running .chain; enough = enough; state = p .running .state; clock = l; countable = paced-countable p (omega arith) }
-
   pub ticks-answer : (T : ℕ) {s : Run} → Paced c s → s .clock + T ≤ longest → ticksFrom c T s ≡ ranAs (ticks c T s)
   unfolding ticksFrom ticks
   ticks-answer zero p l = refl
   ticks-answer (suc T) {s} p l =
-      ap (λ (r : TickAnswer). carryOn r (ticksFrom c T)) (tick-ran c s (ticking-is c s .1 (ticking p (omega arith))))
+      ap (λ (r : TickAnswer). carryOn r (ticksFrom c T)) (tick-ran c s (ticking-is c s .1 (paced-ticking enough p (omega arith))))
       ∙ carried (tick c s) (ticksFrom c T) (ticks c T) (λ h. let q : Paced c (tick c s .run) = tick-paced p h in ticks-answer T q (omega (arith, tick-step (p .running) h .clock)))
 
 -- a deadline run that is not refused
 module _ (c : Chain) (T : ℕ) (ran : DeadlineRuns c T) where
-  -- its chain is accepted, its capacities are enough, and it is within the limit
-  pub may-run : (Accepted c × ((j : ℕ) → j < c .n → Enough c j)) × (T ≤ longest)
-  unfolding deadlineRunAnswer outcomeOf
-  may-run = deadline-run-accepts c T .0 ran
-
   -- what it answers is what its instants leave
   pub answer-is : deadlineRunAnswer c T ≡ ranAs (instants c T (freshRun c))
-  answer-is = deadline-run-ran c T (deadline-run-accepts c T .1 may-run)
+  answer-is = deadline-run-ran c T (deadline-run-accepts c T .1 (run-may c T ran))
 
   -- and what T ticks from a fresh start answer
   pub ticks-are-run : deadlineRunAnswer c T ≡ ticksFrom c T (freshAnswer c .run)
   unfolding freshRun
   ticks-are-run =
-      let a : Accepted c = may-run .0 .0 in
+      let a : Accepted c = run-may c T ran .0 .0 in
       answer-is
       ∙ ap ranAs (run-is-ticks a T)
-      ∙ sym (ticks-answer (may-run .0 .1) T (fresh-paced a) (omega (arith, may-run .1)))
+      ∙ sym (ticks-answer (run-may c T ran .0 .1) T (fresh-paced a) (omega (arith, run-may c T ran .1)))
       ∙ ap (ticksFrom c T) (sym (fresh-state c (analyse-accepts c .1 a)))
