@@ -24,6 +24,8 @@ pub use Rattle.traces.specs.Trace.{Entry, nodes, resting, Replays}
 pub use Rattle.traces.specs.Traced.{tick-traced, traced, run-traced, run-counted, run-balance, run-naming}
 unfoldable pub use Rattle.traces.specs.Rising.{Rising}
 pub use Rattle.traces.specs.Rising.{tick-rising, trace-rising, run-rising}
+unfoldable pub use Rattle.traces.specs.Entries.{instantsOf}
+pub use Rattle.traces.specs.Entries.{instants-append, instants-times, entriesOf, entries-count, source-entries, worked-by, FiredAt, entries-when, entries-first, entries-apart, entries-rise}
 pub use Rattle.tickpast.specs.Deadlines.{deadline-alike, index-alike, question-alike}
 pub use Rattle.tickpast.specs.Slots.{KeptSlots}
 pub use Rattle.tickpast.specs.Answers.{AlikeAnswers, past-n, past-kept, whole-kept, tick-answer-same, deadline-run-alike, deadline-run-kept, deadline-run-whole}

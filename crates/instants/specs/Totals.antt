@@ -1,14 +1,16 @@
 -- What is counted over a deadline run that is clean (01, Firing).
 --   run-clock                  the clock is T
---   run-source                 the source has fired T/y times, rounded up: once at each multiple of y below T
+--   tick-source, run-source    the source has fired T/y times, rounded up: once at each multiple of y below T; and so after each clean tick
 --   workedBy c s j, spentOn c s m, total c s
 --                              the ticks that N_(j+1), N_1 to N_m, and all nodes have worked: e for each firing, and the work done of the next
 --   one-more, none-more        one tick of work adds one to them, and a tick in which no node works none
+--   tick-work                  a clean tick adds at most one to those of each node
 --   SomeOver c u, some-over    one of N_1 to N_n is over threshold, or none is
 --   Waits c s                  one is after the source's step of s
 --   tick-total                 a clean tick adds one tick of work where a node waits for it, and none elsewhere
 --   HowMany P T m              exactly m of the numbers below T have P
 --   how-many-one               there is one such m only
+--   fresh-work                 no node has worked before a run
 --   run-work                   so all work done in a run is one tick for each instant at which a node waited for it
 use mathlib.Core.Path.{_≡_, refl, sym, ap, subst, _∙_}
 use mathlib.Core.Logic.{_≢_, _⊎_, inl, inr, ⊎-elim, by-cases}
@@ -45,7 +47,7 @@ between-next y t some n =
     ceil-unique (t + 1) y (ceil t y) (omega (arith, ne, ceil-above t y some)) (omega (arith, ceil-below t y some))
 
 -- "the source fires if y divides t": its count after one clean tick
-tick-source : {c : Chain} {t : ℕ} {s u : Run} → CleanStep c t s u → countAt s 0 ≡ ceil t (c .period) → countAt u 0 ≡ ceil (suc t) (c .period)
+pub tick-source : {c : Chain} {t : ℕ} {s u : Run} → CleanStep c t s u → countAt s 0 ≡ ceil t (c .period) → countAt u 0 ≡ ceil (suc t) (c .period)
 tick-source {c} {t} {s} {u} k p = by-cases (decDvd (c .period) (s .clock))
     (λ d. once-counts (k .tick) .1 d ∙ rw (p, ← next) (sym (multiple-next (c .period) t some (subst (λ (m : ℕ). c .period ∣ m) (k .clock) d))))
     (λ n. once-keeps (k .tick) .1 n ∙ rw (p, ← next) (sym (between-next (c .period) t some (λ d. n (subst (λ (m : ℕ). c .period ∣ m) (sym (k .clock)) d)))))
@@ -83,8 +85,11 @@ spent-more c s t j (suc m) l h others = by-cases (ℕ-discrete m j)
     (λ n. omega (arith, others m n, spent-more c s t j m (omega arith) h others))
 
 -- the source does none of it
+source-work : {c : Chain} {s u : Run} → SourceOnce c s u → (j : ℕ) → workedBy c u j ≡ workedBy c s j
+source-work {c} o j = λ k. workOf c j * o .counts (suc j) (λ z. omega arith) k + getD (o .done k) j 0
+
 source-total : {c : Chain} {s u : Run} → SourceOnce c s u → total c u ≡ total c s
-source-total {c} {s} {u} o = spent-alike c s u (c .n) (λ j l k. workOf c j * o .counts (suc j) (λ z. omega arith) k + getD (o .done k) j 0)
+source-total {c} {s} {u} o = spent-alike c s u (c .n) (λ j l. source-work o j)
 
 module _ {c : Chain} {u t : Run} {w : ℕ} (k : WorkOnce c u w t) where
   -- a node that does not work
@@ -119,6 +124,12 @@ module _ {c : Chain} {u t : Run} {w : ℕ} (k : WorkOnce c u w t) where
 
   pub none-more : w ≡ 0 → total c t ≡ total c u
   none-more e = spent-alike c u t (c .n) (λ i l. other-work i (λ z. omega arith))
+
+-- "works one tick": in a clean tick no node does more work than that
+pub tick-work : {c : Chain} {s t : Run} → TickOnce c s t → (j : ℕ) → workedBy c t j ≤ workedBy c s j + 1
+tick-work k j = by-cases (ℕ-discrete (k .worker) (suc j))
+    (λ e. omega (arith, own-work (k .work) j e, source-work (k .source) j))
+    (λ n. omega (arith, other-work (k .work) j n, source-work (k .source) j))
 
 -- a node other than the source is over threshold
 pub record SomeOver (c : Chain) (u : Run) : Type 0 where
@@ -187,10 +198,14 @@ many-lacks P T zero n h = (n, h)
 many-lacks P T (suc m) n h = inr (n, h)
 
 -- a fresh start has no work behind it
+pub fresh-work : (c : Chain) (j : ℕ) → workedBy c (freshRun c) j ≡ 0
+unfolding freshRun
+fresh-work c j = rw (fresh-count c (suc j)) (omega arith)
+
 fresh-total : (c : Chain) (m : ℕ) → spentOn c (freshRun c) m ≡ 0
-unfolding spentOn freshRun
+unfolding spentOn
 fresh-total c zero = refl
-fresh-total c (suc j) = let own : workedBy c (freshRun c) j ≡ 0 = rw (fresh-count c (suc j)) (omega arith) in omega (arith, fresh-total c j, own)
+fresh-total c (suc j) = omega (arith, fresh-total c j, fresh-work c j)
 
 -- a deadline run that is not refused, and is clean
 module _ (c : Chain) (T : ℕ) (ok : deadlineRunAnswer c T .number ≡ 0) (z : deadlineRunAnswer c T .outcome ≡ Clean) where
