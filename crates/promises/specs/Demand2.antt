@@ -40,7 +40,11 @@
 --                            a node is over threshold after the source's step; the ticks that all nodes have worked; m of the numbers below T have P (Ticks)
 --   deadline-run-when, deadline-run-is, by-ticks, run-ends
 --                            the deadline run: accepted when; what it answers; the same tick by tick; and its first instant
---   run-source, run-work     of a clean one: how often the source has fired, and how long the others have worked
+--   trace c T s, entriesOf c T i, Rising, FiredAt c T j k t
+--                            the firings of T ticks with their instants; N_i's instants in a run of T ticks; they never fall; the instant at which N_(j+1)'s count
+--                            becomes k+1 (Ticks)
+--   run-source, run-work, trace-rises, -source, -when, -apart, -first
+--                            of a clean one: how often the source has fired, how long the others have worked, and the instants of all firings
 --   tick-when, tick-is, tick-overflows, -lacks, -cleans, -leaves, -ends, source-fires, source-rests
 --                            one tick: accepted when; what it answers; each outcome exactly when; and what it leaves
 --   coded a, flat a          the answer a of a tick, and of a deadline run, as C has it (Flat)
@@ -55,10 +59,10 @@ use Prim.Native.Nat.{ℕ, zero, suc, _+_, _-_, _*_, _/_, _≤_, _<_, _∣_}
 use native.Mathlib.Nat.{sub-zero}
 use native.Mathlib.Omega.{arith}
 use lib.IntN.{pos, _+ℤ_}
-use lib.ListN.{length, take, drop, replicate}
+use lib.ListN.{length, getD, take, drop, replicate}
 use borrow.Author.Tests.{le-leb}
 use Rattle.ardenquill.specs.Chains as chains
-use Rattle.ardenquill.specs.Chains.{rowOf, workOf, trimmed, Sound}
+use Rattle.ardenquill.specs.Chains.{tab, rowOf, workOf, trimmed, Sound}
 use Rattle.ardenquill.specs.Files.{countOf, queuesAt, nodesAt, readAnswer, packedLength, packed, writeRefusal, Output, Bytes, packedFile, read-of-write, write-of-read, packed-again, chainOf, AcceptedFile, read-accepts, write-accepts}
 use Rattle.ardenquill.specs.Analyses.{ceil, gcd, gcd-pos-left, residue, residue-000, residue-004, naming, common, nextX, nextY, xOf, yOf, y-multiple, busyIn, analysisOf, analyseAnswer, Accepted, capacity-minimum, capacity-written, margin-unwritten, margin-balance}
 use Rattle.ardenquill.specs.Runs as runs
@@ -68,7 +72,7 @@ use Rattle.ardenquill.specs.Immediate as immediate
 use Rattle.ardenquill.specs.Immediate.{F, fires, fires-below, fires-from, schedule, Follows, rule, immediateAnswer, immediate-accepts, permitted, counts-are-F}
 use Rattle.ardenquill.specs.Deadlines.{earlier, earlier-some, deadline, index, answeredDue, deadlineAnswer, deadline-accepts, deadline-due}
 use Rattle.ardenquill.specs.Ticks as ticks
-use Rattle.ardenquill.specs.Ticks.{kindOf, tickOf, atOf, outcomeOf, tickAnswer, deadlineRunAnswer, ranAs, tick-accepts, deadline-run-accepts, TickOnce, once-counts, once-keeps, Spills, Lacks, OneTick, one-overflows, one-lacks, one-cleans, one-stays, one-leaves, TicksTo, answer-one, answer-exactly, Ends, HowMany, total, Waits}
+use Rattle.ardenquill.specs.Ticks.{kindOf, tickOf, atOf, outcomeOf, tickAnswer, deadlineRunAnswer, ranAs, tick-accepts, deadline-run-accepts, TickOnce, once-counts, once-keeps, Spills, Lacks, OneTick, one-overflows, one-lacks, one-cleans, one-stays, one-leaves, TicksTo, answer-one, answer-exactly, Ends, HowMany, total, Waits, Rising, trace, entriesOf, FiredAt, source-entries, entries-when, entries-apart, entries-first, entries-rise}
 use Rattle.ardenquill.specs.Flat.{coded, flat}
 use Rattle.ardenquill.specs.Records.{Chain, ChainAnswer, LengthAnswer, Analysis, Run, Outcome, Clean, Overflowed, NoDeadline, Ticked, TickAnswer}
 use Rattle.ardenquill.specs.Reports.{reportText, reportRefusal, report-accepts}
@@ -325,6 +329,26 @@ module _ (c : Chain) (T : ℕ) (ran : DeadlineRuns c T) where
     -- below T at which one of them was over threshold after the source's step
     pub run-work : HowMany (λ t. Waits c (deadlineRunAnswer c t .run)) T (total c (deadlineRunAnswer c T .run))
     run-work = ticks.run-work c T ran z
+
+    -- "At each instant t below T": the instants of its firings never fall, and none is after T
+    pub trace-rises : Rising 0 (trace c T (freshRun c)) T
+    trace-rises = entries-rise c T ran z
+
+    -- "the source fires if y divides t": its firings stand at the multiples of y below T, once each
+    pub trace-source : entriesOf c T 0 ≡ tab (ceil T (c .period)) (λ k. k * c .period)
+    trace-source = source-entries c T ran z
+
+    module _ (j : ℕ) (l : j < c .n) where
+      -- "the effect at t+1 of a firing then finished": N_(j+1)'s k-th firing, counted from 0, stands at the instant at which its count becomes k+1
+      pub trace-when : (k t : ℕ) → ((k < length (entriesOf c T (suc j))) × (getD (entriesOf c T (suc j)) k 0 ≡ t)) ↔ FiredAt c T j k t
+      trace-when = entries-when c T ran z j l
+
+      -- "works one tick": a firing takes its e ticks, so two successive ones are e or more apart, and the first is at e or later
+      pub trace-apart : (k : ℕ) → suc k < length (entriesOf c T (suc j)) → getD (entriesOf c T (suc j)) k 0 + workOf c j ≤ getD (entriesOf c T (suc j)) (suc k) 0
+      trace-apart = entries-apart c T ran z j l
+
+      pub trace-first : 0 < length (entriesOf c T (suc j)) → workOf c j ≤ getD (entriesOf c T (suc j)) 0 0
+      trace-first = entries-first c T ran z j l
 
 module _ (c : Chain) (s : Run) where
   -- a tick is accepted exactly when the chain is, no capacity is below the minimum, the state passes 17, and neither a "clock of 1,000,000 or more" nor "a count at
