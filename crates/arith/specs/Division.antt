@@ -8,12 +8,16 @@
 --   ceil-above, -least, -below  m * ceil n m is a multiple of m that is at least n, the least such, and less than m above n
 --   ceil-unique                 and ceil n m is the only such number
 --   ceil-mono, -shift           as for n / m
+--   ceil-zero                   no multiple is needed for 0
+--   ceil-multiple, -between     one more in n is one more in ceil n m where m divides n, and no more elsewhere
+--   ceil-rises                  so where it is one more, n is the multiple
 --   rest-of-sum                 k times c more leaves the remainder on division by c as it was
 --   same-rest-gap               of two numbers with one remainder on division by c, the lower is lower by c or more
 -- In the logic n / 0 is 0 and n % 0 is n; a law here that asks for 0 < m is false without it.
-use mathlib.Core.Path.{_≡_, ap}
-use Prim.Native.Nat.{ℕ, zero, suc, _+_, _-_, _*_, _/_, _%_, _≤_, _<_}
-use native.Mathlib.Nat.{le-refl, le-trans, zero-lt-suc, div-zero, div-add-mod, mul-div-le, lt-mul-div-succ, div-mul-le-self, le-div-iff-mul-le, div-lt-iff-lt-mul, div-eq-of-lt-le, add-mul-div-left, add-mul-mod-self-left, mul-le-mul-left, lt-of-mul-lt-mul-left}
+use mathlib.Core.Path.{_≡_, sym, ap, subst}
+use mathlib.Core.Logic.{_≢_}
+use Prim.Native.Nat.{ℕ, zero, suc, _+_, _-_, _*_, _/_, _%_, _≤_, _<_, _∣_}
+use native.Mathlib.Nat.{mul-div-cancel', dvd-mul-right, le-refl, le-trans, zero-lt-suc, div-zero, div-add-mod, mul-div-le, lt-mul-div-succ, div-mul-le-self, le-div-iff-mul-le, div-lt-iff-lt-mul, div-eq-of-lt-le, add-mul-div-left, add-mul-mod-self-left, mul-le-mul-left, lt-of-mul-lt-mul-left}
 use native.Mathlib.Omega.{arith}
 
 -- a number that code may divide by
@@ -68,6 +72,24 @@ ceil-mono a b m l = floor-mono (a + (m - 1)) (b + (m - 1)) m (omega arith)
 
 pub ceil-shift : (a m k : ℕ) → 0 < m → ceil (a + m * k) m ≡ ceil a m + k
 ceil-shift a m k h = ceil-unique (a + m * k) m (ceil a m + k) (omega (arith, ceil-above a m h)) (omega (arith, ceil-below a m h))
+
+pub ceil-zero : (m : ℕ) → 0 < m → ceil 0 m ≡ 0
+ceil-zero m h = ceil-unique 0 m 0 (omega arith) (omega arith)
+
+-- the next number after a multiple, and after none
+pub ceil-multiple : (n m : ℕ) → 0 < m → m ∣ n → ceil (suc n) m ≡ suc (ceil n m)
+ceil-multiple n m h d =
+    let e : m * (n / m) ≡ n = mul-div-cancel' m d in
+    let q : ceil n m ≡ n / m = ceil-unique n m (n / m) (omega (arith, e)) (omega (arith, e)) in
+    rw q (ceil-unique (suc n) m (suc (n / m)) (omega (arith, e)) (omega (arith, e)))
+
+pub ceil-between : (n m : ℕ) → 0 < m → (m ∣ n → ⊥) → ceil (suc n) m ≡ ceil n m
+ceil-between n m h none =
+    let other : n ≢ m * ceil n m = λ e. none (subst (λ (x : ℕ). m ∣ x) (sym e) (dvd-mul-right m (ceil n m))) in
+    ceil-unique (suc n) m (ceil n m) (omega (arith, other, ceil-above n m h)) (omega (arith, ceil-below n m h))
+
+pub ceil-rises : (n m : ℕ) → 0 < m → ceil (suc n) m ≡ suc (ceil n m) → ceil n m * m ≡ n
+ceil-rises n m h e = omega (arith, ceil-above n m h, subst (λ (q : ℕ). m * q < suc n + m) e (ceil-below (suc n) m h))
 
 -- a and b, which differ by a multiple of c, have one remainder
 pub rest-of-sum : (a b c k : ℕ) → a ≡ b + c * k → a % c ≡ b % c

@@ -15,13 +15,13 @@
 use mathlib.Core.Path.{_≡_, refl, sym, ap, subst, _∙_}
 use mathlib.Core.Logic.{_≢_, _⊎_, inl, inr, ⊎-elim, by-cases}
 use mathlib.Core.List.{List}
-use Prim.Native.Nat.{ℕ, zero, suc, _+_, _*_, _/_, _≤_, _<_, _∣_}
-use native.Mathlib.Nat.{le-refl, le-step, zero-lt-suc, mul-div-cancel', dvd-mul-right}
+use Prim.Native.Nat.{ℕ, zero, suc, _+_, _*_, _≤_, _<_, _∣_}
+use native.Mathlib.Nat.{le-refl, le-step, zero-lt-suc}
 use native.Mathlib.Decide.{ℕ-discrete, decLe, decDvd}
 use native.Mathlib.Numerals.{add-one}
 use native.Mathlib.Omega.{arith}
 use lib.ListN.{getD}
-use Rattle.arith.specs.Division.{ceil, ceil-above, ceil-below, ceil-unique}
+use Rattle.arith.specs.Division.{ceil, ceil-zero, ceil-multiple, ceil-between}
 use Rattle.chain.specs.Record.{rowOf, workOf}
 use Rattle.chain.specs.declared.Chain.{Chain}
 use Rattle.state.specs.State.{countAt, heldAt, doneAt, freshRun, fresh-count}
@@ -34,29 +34,14 @@ use Rattle.instants.specs.Answers.{run-may, CleanStep, at-clock, run-sta
 use Rattle.instants.specs.declared.Outcome.the-variants.{Clean}
 use Rattle.instants.specs.declared.TickAnswer.{TickAnswer}
 
--- the next multiple of y, where t is one and where it is none
-multiple-next : (y t : ℕ) → 0 < y → y ∣ t → ceil (t + 1) y ≡ ceil t y + 1
-multiple-next y t some d =
-    let e : y * (t / y) ≡ t = mul-div-cancel' y d in
-    let q : ceil t y ≡ t / y = ceil-unique t y (t / y) (omega (arith, e)) (omega (arith, e)) in
-    rw q (ceil-unique (t + 1) y (t / y + 1) (omega (arith, e)) (omega (arith, e)))
-
-between-next : (y t : ℕ) → 0 < y → (y ∣ t → ⊥) → ceil (t + 1) y ≡ ceil t y
-between-next y t some n =
-    let ne : t ≢ y * ceil t y = λ e. n (subst (λ (x : ℕ). y ∣ x) (sym e) (dvd-mul-right y (ceil t y))) in
-    ceil-unique (t + 1) y (ceil t y) (omega (arith, ne, ceil-above t y some)) (omega (arith, ceil-below t y some))
-
 -- "the source fires if y divides t": its count after one clean tick
 pub tick-source : {c : Chain} {t : ℕ} {s u : Run} → CleanStep c t s u → countAt s 0 ≡ ceil t (c .period) → countAt u 0 ≡ ceil (suc t) (c .period)
 tick-source {c} {t} {s} {u} k p = by-cases (decDvd (c .period) (s .clock))
-    (λ d. once-counts (k .tick) .1 d ∙ rw (p, ← next) (sym (multiple-next (c .period) t some (subst (λ (m : ℕ). c .period ∣ m) (k .clock) d))))
-    (λ n. once-keeps (k .tick) .1 n ∙ rw (p, ← next) (sym (between-next (c .period) t some (λ d. n (subst (λ (m : ℕ). c .period ∣ m) (sym (k .clock)) d)))))
+    (λ d. once-counts (k .tick) .1 d ∙ add-one (countAt s 0) ∙ ap suc p ∙ sym (ceil-multiple t (c .period) some (subst (λ (m : ℕ). c .period ∣ m) (k .clock) d)))
+    (λ n. once-keeps (k .tick) .1 n ∙ p ∙ sym (ceil-between t (c .period) some (λ d. n (subst (λ (m : ℕ). c .period ∣ m) (sym (k .clock)) d))))
   where
     some : 0 < c .period
     some = k .running .chain .chain .period .0
-
-    next : t + 1 ≡ suc t
-    next = add-one t
 
 -- the ticks that N_(j+1) has worked: e for each of its firings, and those on the firing that it has begun
 abbrev pub workedBy : Chain → Run → ℕ → ℕ
@@ -218,7 +203,7 @@ module _ (c : Chain) (T : ℕ) (ok : deadlineRunAnswer c T .number ≡ 0) (z : d
   run-source = along c T ok (λ t. countAt (deadlineRunAnswer c t .run) 0 ≡ ceil t (c .period)) first (λ t l. tick-source) z
     where
       first : countAt (deadlineRunAnswer c 0 .run) 0 ≡ ceil 0 (c .period)
-      first = ap (λ (a : TickAnswer). countAt (a .run) 0) (run-start c T ok) ∙ fresh-count c 0 ∙ sym (ceil-unique 0 (c .period) 0 (omega arith) (omega (arith, run-may c T ok .0 .0 .chain .period .0)))
+      first = ap (λ (a : TickAnswer). countAt (a .run) 0) (run-start c T ok) ∙ fresh-count c 0 ∙ sym (ceil-zero (c .period) (run-may c T ok .0 .0 .chain .period .0))
 
   -- all work that was done, as firings or as work on the next, is one tick for each instant at which a node waited for it
   pub run-work : HowMany (λ t. Waits c (deadlineRunAnswer c t .run)) T (total c (deadlineRunAnswer c T .run))

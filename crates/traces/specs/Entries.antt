@@ -22,7 +22,7 @@ use lib.Dec.{eqb}
 use lib.ListN.{length, getD, length-append, List·getD-append}
 use lib.Seq.{getD-at}
 use borrow.Author.Tests.{eq-eqb, ne-eqb}
-use Rattle.arith.specs.Division.{ceil, ceil-above, ceil-below, ceil-unique}
+use Rattle.arith.specs.Division.{ceil, ceil-zero, ceil-rises}
 use Rattle.words.specs.Table.{tab, length-tab, tab-last}
 use Rattle.chain.specs.Record.{workOf}
 use Rattle.chain.specs.declared.Chain.{Chain}
@@ -212,10 +212,6 @@ module _ (c : Chain) (T : ℕ) (ok : deadlineRunAnswer c T .number ≡ 0) where
       next : length (entriesOf c (suc t) i) ≡ countAt (deadlineRunAnswer c (suc t) .run) i
       next = count-to (suc t) l i f
 
--- where one multiple more is counted, t is the next
-next-multiple : (t y : ℕ) → 0 < y → ceil (suc t) y ≡ suc (ceil t y) → ceil t y * y ≡ t
-next-multiple t y some e = omega (arith, ceil-above t y some, subst (λ (q : ℕ). y * q < suc t + y) e (ceil-below (suc t) y some))
-
 -- t is T or earlier; at the instant before it N_(j+1)'s count is k, at t it is k+1, and then no work is done of its next firing
 pub record FiredAt (c : Chain) (T j k t : ℕ) : Type 0 where
   pub before : ℕ
@@ -243,7 +239,7 @@ module _ (c : Chain) (T : ℕ) (ok : deadlineRunAnswer c T .number ≡ 0) (z : d
       multiples n = tab n (λ k. k * c .period)
 
       first : entriesOf c 0 0 ≡ multiples (ceil 0 (c .period))
-      first = ap multiples (sym (ceil-unique 0 (c .period) 0 (omega arith) (omega (arith, some))))
+      first = ap multiples (sym (ceil-zero (c .period) some))
 
       more : (t : ℕ) → t < T → Step c t → entriesOf c t 0 ≡ multiples (ceil t (c .period)) → entriesOf c (suc t) 0 ≡ multiples (ceil (suc t) (c .period))
       more t l k h =
@@ -255,7 +251,7 @@ module _ (c : Chain) (T : ℕ) (ok : deadlineRunAnswer c T .number ≡ 0) (z : d
           let one : ceil (suc t) (c .period) ≡ suc (ceil t (c .period)) = sym next ∙ e .1 ∙ ap suc now in
           e .0
           ∙ ap (λ (g : List ℕ). g ++ (t ∷ [])) h
-          ∙ ap (λ (m : ℕ). multiples (ceil t (c .period)) ++ (m ∷ [])) (sym (next-multiple t (c .period) some one))
+          ∙ ap (λ (m : ℕ). multiples (ceil t (c .period)) ++ (m ∷ [])) (sym (ceil-rises t (c .period) some one))
           ∙ sym (tab-last (ceil t (c .period)) (λ m. m * c .period))
           ∙ ap multiples (sym one))
           (grows c T ok 0 (omega arith) t l k)
