@@ -16,25 +16,25 @@ Inv-loop chain nodes answer₀ i₀ answer i = replayFrom chain answer (drop i n
 abbrev μ-loop : tie.MeasureT-loop
 μ-loop chain nodes answer₀ i₀ answer i = length nodes - i
 
-fresh-requires : tie.Need-fresh-requires Inv-loop μ-loop
-fresh-requires c κs = search needs
+ardenquill-fresh-requires : tie.Need-ardenquill-fresh-requires Inv-loop μ-loop
+ardenquill-fresh-requires c κs = search needs
 
 loop-holds : tie.Need-loop-holds Inv-loop μ-loop
-loop-holds c = replay-start _ _ (c .fresh .ensures)
+loop-holds c = replay-start _ _ (c .ardenquill-fresh .ensures)
 
 returns : tie.Need-returns Inv-loop μ-loop
 returns c =
     let loop = c .before .before .before .loop in
     replayed _ _ (sym (stopped _ (loop .answer) _ (λ z. omega (arith, c .if1 .taken))) ∙ loop .inv)
 
-mul-fire : tie.Need-mul-fire Inv-loop μ-loop
-mul-fire c = search needs
+mul-ardenquill-fire : tie.Need-mul-ardenquill-fire Inv-loop μ-loop
+mul-ardenquill-fire c = search needs
 
-shared-slice-read-fire : tie.Need-shared-slice-read-fire Inv-loop μ-loop
-shared-slice-read-fire c = search needs
+shared-slice-read-ardenquill-fire : tie.Need-shared-slice-read-ardenquill-fire Inv-loop μ-loop
+shared-slice-read-ardenquill-fire c = search needs
 
-fire-requires : tie.Need-fire-requires Inv-loop μ-loop
-fire-requires c κs = search needs
+ardenquill-fire-requires : tie.Need-ardenquill-fire-requires Inv-loop μ-loop
+ardenquill-fire-requires c κs = search needs
 
 add-i : tie.Need-add-i Inv-loop μ-loop
 add-i c = search needs
@@ -47,7 +47,7 @@ loop-again c =
     let passed = c .before .before .before in
     let test = passed .before .before in
     let loop = test .before .loop in
-    replay-next _ (loop .answer) _ (loop .i) (test .loop-test .taken) (passed .if1 .left) (c .fire .ensures) ∙ loop .inv
+    replay-next _ (loop .answer) _ (loop .i) (test .loop-test .taken) (passed .if1 .left) (c .ardenquill-fire .ensures) ∙ loop .inv
 
 returns-2 : tie.Need-returns-2 Inv-loop μ-loop
 returns-2 c = replayed _ _ (sym (replay-end _ _ _ _ (c .loop-test .left)) ∙ c .before .loop .inv)
@@ -58,12 +58,12 @@ replay-spec =
     (tie.spec
     Inv-loop
     μ-loop
-    fresh-requires
+    ardenquill-fresh-requires
     loop-holds
     returns
-    mul-fire
-    shared-slice-read-fire
-    fire-requires
+    mul-ardenquill-fire
+    shared-slice-read-ardenquill-fire
+    ardenquill-fire-requires
     add-i
     loop-less
     loop-again
