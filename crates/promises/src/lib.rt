@@ -3,10 +3,11 @@
 // refused here.
 ghost use mathlib.Core.Path.{_≡_};
 ghost use lib.ListN.{length};
-ghost use Rattle.ardenquill.specs.Files.{Output};
+ghost use Rattle.ardenquill.specs.Files.{readAnswer, Output};
 ghost use Rattle.ardenquill.specs.Chains.{factoryAnswer};
 ghost use Rattle.ardenquill.specs.Analyses.{analyseAnswer};
 ghost use Rattle.ardenquill.specs.Reports.{reportText, reportRefusal};
+ghost use Rattle.ardenquill.specs.Runs.{fireAnswer};
 ghost use Rattle.ardenquill.specs.Immediate.{immediateAnswer};
 ghost use Rattle.ardenquill.specs.Deadlines.{deadlineAnswer};
 ghost use Rattle.ardenquill.specs.Ticks.{tickAnswer};
@@ -64,6 +65,13 @@ pub fn run(chain: Chain, ticks: u32) -> OutcomeRun
     ardenquill::ardenquill_deadline_run(chain, ticks)
 }
 
+// The chain of a file, or its refusal.
+pub fn loaded(file: &[u8]) -> ChainAnswer
+    ensures { λ r. ⌜ r ≡ readAnswer (now (file .entry)) ⌝ }
+{
+    ardenquill::ardenquill_read(file)
+}
+
 // The factory chain of a number, or 14.
 pub fn stock(number: u32) -> ChainAnswer
     ensures { λ r. ⌜ r ≡ factoryAnswer number ⌝ }
@@ -83,6 +91,13 @@ pub fn reported(file: &[u8], out: &mut [u8]) -> LengthAnswer
     ensures { λ r. ⌜ Output (reportRefusal (now (file .entry)) (length (now (out .entry)))) (reportText (now (file .entry))) (now (out .entry)) (now (out .exit)) r ⌝ }
 {
     ardenquill::ardenquill_report(file, out)
+}
+
+// The state after one manual firing of a node, or the state as it was with the refusal.
+pub fn fired(chain: Chain, run: Run, node: u32) -> RunAnswer
+    ensures { λ r. ⌜ r ≡ fireAnswer chain run node ⌝ }
+{
+    ardenquill::ardenquill_fire(chain, run, node)
 }
 
 // The state after an immediate run of k source firings, or its refusal.
