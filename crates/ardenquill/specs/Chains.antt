@@ -4,8 +4,8 @@ unfoldable pub use Rattle.words.specs.Table.{tab}
 pub use Rattle.words.specs.Table.{slots}
 pub use Rattle.words.specs.Rows.{none, row}
 pub use Rattle.chain.specs.Tests.{outside, Out, In}
-pub use Rattle.chain.specs.Refusals.{refused, fine, test, orElse, first, Silent, Silents, First, first-is, first-fine, first-silent, Only, only-test, test-alone, numbered-length, numbered-own}
-unfoldable pub use Rattle.chain.specs.Refusals.{Numbered}
+pub use Rattle.chain.specs.Refusals.{refused, fine, test, orElse, first, Silent, First, first-is, first-fine, first-silent, Only, only-test, test-alone, numbered-length, numbered-own}
+unfoldable pub use Rattle.chain.specs.Refusals.{Silents, Numbered}
 pub use Rattle.chain.specs.Record.{rowOf, workOf, emptyChain, trimmed}
 unfoldable pub use Rattle.chain.specs.Record.{answered}
 pub use Rattle.chain.specs.Checks.{Field, field, ticks, rowFields, fields, row-values, row-places, countCheck, outOfRange, rangeCheck, overdrawn, orderCheck, recordRange, recordOrder, chainChecks, chainRefusal, FieldOut, FieldIn, fieldAt, FirstOut, FirstOver, record-2, record-4, record-5, chainNumbers, chain-numbered}

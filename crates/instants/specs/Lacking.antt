@@ -15,6 +15,7 @@ use Rattle.chain.specs.Tests.{equal-true, and-true, negated-true, negated-false
 use Rattle.chain.specs.Refusals.{refused, Silent, Lowest, lowest-is, all-silent, test-exact, test-silent}
 use Rattle.chain.specs.declared.Chain.{Chain}
 use Rattle.sizing.specs.Checks.{limit}
+use Rattle.state.specs.State.{countAt}
 use Rattle.state.specs.Fired.{Over}
 use Rattle.state.specs.Checks.{over, over-true}
 use Rattle.state.specs.declared.Run.{Run}
@@ -23,13 +24,13 @@ use Rattle.instants.specs.Steps.{next, lackingTest, lacking}
 
 -- "a deadline index passes 4,294,967,295": no index on the way down from N_i's next firing to the source does
 abbrev pub Within : Chain → Run → ℕ → Type 0
-Within c s i = (m : ℕ) → m ≤ i → index c i (next s i) m ≤ limit
+Within c s i = (m : ℕ) → m ≤ i → index c i (suc (countAt s i)) m ≤ limit
 
 -- or one does
 pub record Past (c : Chain) (s : Run) (i : ℕ) : Type 0 where
   pub at : ℕ
   pub node : at ≤ i
-  pub passes : limit < index c i (next s i) at
+  pub passes : limit < index c i (suc (countAt s i)) at
 
 -- 13 in words: L is the lowest node over threshold with an index past the limit on its way
 pub record FirstLacking (c : Chain) (s : Run) (L : ℕ) : Type 0 where

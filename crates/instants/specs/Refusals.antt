@@ -49,7 +49,7 @@ use Rattle.instants.specs.declared.Ticked.{Ticked}
 use Rattle.instants.specs.declared.TickAnswer.{TickAnswer}
 
 -- 9 of the clock is said exactly when it is 1,000,000 or more, place 0
-pub clock-exact : (s : Run) (L : ℕ) → (clockCheck s ≡ refused 9 L) ↔ ((longest ≤ s .clock) × (L ≡ 0))
+pub clock-exact : (s : Run) (L : ℕ) → (clockCheck s ≡ refused 9 L) ↔ ((1000000 ≤ s .clock) × (L ≡ 0))
 clock-exact s L = Iff·trans (test-exact 9 L 0 (λ e. omega arith) _) (Iff·and (upto-true longest (s .clock)) Iff·rfl)
 
 -- it is silent exactly below
@@ -121,7 +121,7 @@ module _ (c : Chain) (s : Run) where
   nine-only = only-or (clockCheck s) (spentCheck c s) (clock-only s) spent-only
 
 -- 9 of a deadline run is said exactly when T passes 1,000,000, place 0
-pub length-exact : (T L : ℕ) → (lengthCheck T ≡ refused 9 L) ↔ ((longest < T) × (L ≡ 0))
+pub length-exact : (T L : ℕ) → (lengthCheck T ≡ refused 9 L) ↔ ((1000000 < T) × (L ≡ 0))
 length-exact T L = Iff·trans (test-exact 9 L 0 (λ e. omega arith) _) (Iff·and (below-true longest T) Iff·rfl)
 
 -- it is silent exactly where T does not

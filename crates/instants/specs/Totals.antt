@@ -70,7 +70,7 @@ spent-more c s t j (suc m) l h others = by-cases (ℕ-discrete m j)
     (λ n. omega (arith, others m n, spent-more c s t j m (omega arith) h others))
 
 -- the source does none of it
-source-work : {c : Chain} {s u : Run} → SourceOnce c s u → (j : ℕ) → workedBy c u j ≡ workedBy c s j
+pub source-work : {c : Chain} {s u : Run} → SourceOnce c s u → (j : ℕ) → workedBy c u j ≡ workedBy c s j
 source-work {c} o j = λ k. workOf c j * o .counts (suc j) (λ z. omega arith) k + getD (o .done k) j 0
 
 source-total : {c : Chain} {s u : Run} → SourceOnce c s u → total c u ≡ total c s
@@ -78,7 +78,7 @@ source-total {c} {s} {u} o = spent-alike c s u (c .n) (λ j l. source-work o j)
 
 module _ {c : Chain} {u t : Run} {w : ℕ} (k : WorkOnce c u w t) where
   -- a node that does not work
-  other-work : (i : ℕ) → w ≢ suc i → workedBy c t i ≡ workedBy c u i
+  pub other-work : (i : ℕ) → w ≢ suc i → workedBy c t i ≡ workedBy c u i
   other-work i ne = λ z. workOf c i * count w refl z + k .others i ne z
     where
       lists : {x y : List ℕ} → x ≡ y → getD x (suc i) 0 ≡ getD y (suc i) 0
@@ -89,7 +89,7 @@ module _ {c : Chain} {u t : Run} {w : ℕ} (k : WorkOnce c u w t) where
       count (suc j) e = by-cases (ℕ-discrete (doneAt u j + 1) (workOf c j)) (λ all. k .ends j e all .counts (suc i) (λ z. ne (omega arith))) (λ n. lists (k .on j e n .1 .0))
 
   -- the node that works: its work is one tick more, or e has become one firing more
-  own-work : (j : ℕ) → w ≡ suc j → workedBy c t j ≡ workedBy c u j + 1
+  pub own-work : (j : ℕ) → w ≡ suc j → workedBy c t j ≡ workedBy c u j + 1
   own-work j e = by-cases (ℕ-discrete (doneAt u j + 1) (workOf c j))
       (λ all. ends (workOf c j) (countAt u (suc j)) (countAt t (suc j)) (doneAt u j) (doneAt t j) all (k .ends j e all .count) (k .ends j e all .done))
       (λ n.

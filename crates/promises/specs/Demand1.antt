@@ -25,7 +25,7 @@ use mathlib.Core.List.{List, [], _∷_}
 use Prim.Native.Nat.{ℕ}
 use native.Mathlib.Omega.{arith}
 use lib.Dec.{ltb, leb}
-use lib.ListN.{length}
+use lib.ListN.{length, replicate}
 use borrow.Author.Tests.{ne-eqb}
 use Rattle.ardenquill.specs.Records.{Refusal, Chain, LengthAnswer, Run, Clean}
 use Rattle.ardenquill.specs.Chains as chains
@@ -34,7 +34,7 @@ use Rattle.ardenquill.specs.Files.{readChecks, read-numbered, readRefusal, read
 use Rattle.ardenquill.specs.Analyses.{emptyAnalysis, sized, analyseChecks, analyse-numbered, analyseRefusal, analyseAnswer, runChecks, run-numbered, runRefusal, runAnswer}
 use Rattle.ardenquill.specs.Reports.{refusalText, reportText, reportChecks, report-numbered, reportRefusal}
 use Rattle.ardenquill.specs.Runs as runs
-use Rattle.ardenquill.specs.Runs.{emptyRun, freshAnswer, fireChecks, fire-numbered, fireRefusal, fireAnswer, fresh-refused, fire-refused, AlikeChains, AlikeRuns, Whole, KeptPast, analysis-alike, run-analysis-alike, fresh-alike, fire-alike}
+use Rattle.ardenquill.specs.Runs.{emptyRun, freshAnswer, fireChecks, fire-numbered, fireRefusal, fireAnswer, fresh-refused, fire-refused, AlikeChains, AlikeRuns, KeptPast, analysis-alike, run-analysis-alike, fresh-alike, fire-alike}
 use Rattle.ardenquill.specs.Immediate.{immediateChecks, immediate-numbered, immediateRefusal, immediateAnswer, immediate-refused, immediate-alike}
 use Rattle.ardenquill.specs.Deadlines.{answeredDue, deadlineChecks, deadline-numbered, deadlineRefusal, deadlineAnswer, deadline-refused}
 use Rattle.ardenquill.specs.Flat.{coded}
@@ -42,7 +42,8 @@ use Rattle.ardenquill.specs.declared.OutcomeAnswer.{OutcomeAnswer}
 use Rattle.ardenquill.specs.Ticks as ticks
 use Rattle.ardenquill.specs.Ticks.{outcomeOf, tickChecks, tick-numbered, tickRefusal, tickAnswer, deadlineRunChecks, deadline-run-numbered, deadlineRunRefusal, deadlineRunAnswer, KeptSlots, AlikeAnswers, question-alike, deadline-run-alike}
 use Rattle.promises.specs.Order.{InOrder, in-order}
-use Rattle.promises.specs.Laws.{write-alike}
+use Rattle.promises.specs.Replay.{AllSlots}
+use Rattle.promises.specs.Laws.{whole, write-alike}
 
 -- "Bad input gets one of the listed refusal numbers with its place, in the listed order": a file that is read
 pub read-numbers : (f : List ℕ) → InOrder (1 ∷ 2 ∷ 3 ∷ 4 ∷ 5 ∷ []) (readChecks f) (readAnswer f .number) (readAnswer f .place)
@@ -141,7 +142,7 @@ module _ (c : Chain) where
   unfolding deadlineAnswer answeredDue
   deadline-empty i k = deadline-refused c i k
 
-  pub deadline-run-empty : (T : ℕ) → deadlineRunAnswer c T .number ≢ 0 → (deadlineRunAnswer c T .outcome ≡ Clean) × (deadlineRunAnswer c T .run ≡ emptyRun)
+  pub deadline-run-empty : (T : ℕ) → deadlineRunAnswer c T .number ≢ 0 → (deadlineRunAnswer c T .outcome ≡ Clean) × (deadlineRunAnswer c T .run ≡ record { clock = 0; counts = replicate 17 0; held = replicate 16 0; done = replicate 16 0 })
   unfolding deadlineRunAnswer outcomeOf
   deadline-run-empty T n = (simp (ne-eqb _ _ n), simp (ne-eqb _ _ n))
 
@@ -183,12 +184,12 @@ module _ {c d : Chain} (a : AlikeChains c d) where
   pub write-past : (room : ℕ) → (writeRefusal c room ≡ writeRefusal d room) × (packed c ≡ packed d)
   write-past = write-alike a
 
-  module _ {s t : Run} (r : AlikeRuns (c .n) s t) (w : Whole s) (v : Whole t) where
+  module _ {s t : Run} (r : AlikeRuns (c .n) s t) (w : AllSlots s) (v : AllSlots t) where
     -- a state that is fired in
     pub fire-past : (i : ℕ) → (refused (fireAnswer c s i .number) (fireAnswer c s i .place) ≡ refused (fireAnswer d t i .number) (fireAnswer d t i .place)) × AlikeRuns (c .n) (fireAnswer c s i .run) (fireAnswer d t i .run)
     unfolding fireAnswer runs.answered
-    fire-past i = (fire-alike a r i, runs.past-n a r w v i)
+    fire-past i = (fire-alike a r i, runs.past-n a r (whole w) (whole v) i)
 
     -- and one that is given a tick
     pub tick-past : AlikeAnswers (c .n) (tickAnswer c s) (tickAnswer d t)
-    tick-past = ticks.past-n a r w v
+    tick-past = ticks.past-n a r (whole w) (whole v)

@@ -17,8 +17,8 @@
 --                            N_j's index on the way down from N_i's k, and the deadline that it leads to (Deadlines)
 --   indexBefore, index-asked, index-next, deadline-when, deadline-is, deadline-source, deadline-next
 --                            "deadlines"
---   May c s i, StateSound c s
---                            9, 11 and 12 let N_i fire in s; s passes 17 (Runs)
+--   May c s i, Passes c s j, AllSlots s
+--                            9, 11 and 12 let N_i fire in s (Runs); s passes 17 at queue j, and has all its slots (Replay)
 --   fire-when, FiredOnce, fire-does
 --                            "manual firing"
 --   Runs c k, Fires c h, NearestFirst c h, Low c s, Ample c j
@@ -43,18 +43,20 @@
 --   trace c T s, entriesOf c T i, Rising, FiredAt c T j k t
 --                            the firings of T ticks with their instants; N_i's instants in a run of T ticks; they never fall; the instant at which N_(j+1)'s count
 --                            becomes k+1 (Ticks)
---   run-source, run-work, trace-rises, -source, -when, -apart, -first
---                            of a clean one: how often the source has fired, how long the others have worked, and the instants of all firings
---   tick-when, tick-is, tick-overflows, -lacks, -cleans, -leaves, -ends, source-fires, source-rests
---                            one tick: accepted when; what it answers; each outcome exactly when; and what it leaves
+--   run-clock, run-source, run-work, trace-rises, -source, -when, -apart, -first
+--                            of a clean one: its clock, how often the source has fired, how long the others have worked, and the instants of all firings
+--   tick-when, SpentFirst, tick-nine
+--                            one tick: accepted when; and 9 of it
+--   tick-is, tick-overflows, -lacks, -cleans, -leaves, -clock, -ends, source-fires, source-rests
+--                            what it answers; each outcome exactly when; and what it leaves (and by numbers alone, TickInNumbers)
 --   coded a, flat a          the answer a of a tick, and of a deadline run, as C has it (Flat)
 --   Told, tick-told, run-told
 --                            what C is told of them
 --   reads-back, writes-packed, packed-is-itself
 --                            "Reading a written chain file gives the chain back; writing a chain that was read gives the packed file"
 use mathlib.Core.Path.{_≡_, refl, sym, ap, subst, _∙_}
-use mathlib.Core.Logic.{_↔_, _≢_, _⊎_, inr, ⊎-elim, Iff·trans, Iff·and, Iff·rfl}
-use mathlib.Core.List.{List, _++_}
+use mathlib.Core.Logic.{_↔_, _≢_, _⊎_, inl, inr, ⊎-elim, Iff·trans, Iff·and, Iff·rfl}
+use mathlib.Core.List.{List, [], _∷_, _++_}
 use Prim.Native.Nat.{ℕ, zero, suc, _+_, _-_, _*_, _/_, _≤_, _<_, _∣_}
 use native.Mathlib.Nat.{sub-zero}
 use native.Mathlib.Omega.{arith}
@@ -62,22 +64,22 @@ use lib.IntN.{pos, _+ℤ_}
 use lib.ListN.{length, getD, take, drop, replicate}
 use borrow.Author.Tests.{le-leb}
 use Rattle.ardenquill.specs.Chains as chains
-use Rattle.ardenquill.specs.Chains.{tab, rowOf, workOf, trimmed, Sound}
+use Rattle.ardenquill.specs.Chains.{Silents, tab, rowOf, workOf, trimmed, Sound}
 use Rattle.ardenquill.specs.Files.{countOf, queuesAt, nodesAt, readAnswer, packedLength, packed, writeRefusal, Output, Bytes, packedFile, read-of-write, write-of-read, packed-again, chainOf, AcceptedFile, read-accepts, write-accepts}
-use Rattle.ardenquill.specs.Analyses.{ceil, gcd, gcd-pos-left, residue, residue-000, residue-004, naming, common, nextX, nextY, xOf, yOf, y-multiple, busyIn, analysisOf, analyseAnswer, Accepted, capacity-minimum, capacity-written, margin-unwritten, margin-balance}
+use Rattle.ardenquill.specs.Analyses.{ceil, gcd, gcd-pos-left, residue, residue-000, residue-004, naming, common, nextX, nextY, xOf, yOf, y-multiple, busyIn, runChecks, analysisOf, analyseAnswer, Accepted, capacity-minimum, capacity-written, margin-unwritten, margin-balance}
 use Rattle.ardenquill.specs.Runs as runs
-use Rattle.ardenquill.specs.Runs.{countAt, heldAt, freshRun, fired, May, StateSound, Whole, Firing, firing-is, fireAnswer, fire-accepts, fire-accepted, count-fired, count-other, held-output, held-other}
+use Rattle.ardenquill.specs.Runs.{countAt, heldAt, freshRun, fired, May, stateCheck, state-silent, Whole, Firing, firing-is, fireAnswer, fire-accepts, fire-accepted, count-fired, count-other, held-output, held-other}
 use Rattle.ardenquill.specs.Histories.{times}
 use Rattle.ardenquill.specs.Immediate as immediate
 use Rattle.ardenquill.specs.Immediate.{F, fires, fires-below, fires-from, schedule, Follows, rule, immediateAnswer, immediate-accepts, permitted, counts-are-F}
 use Rattle.ardenquill.specs.Deadlines.{earlier, earlier-some, deadline, index, answeredDue, deadlineAnswer, deadline-accepts, deadline-due}
 use Rattle.ardenquill.specs.Ticks as ticks
-use Rattle.ardenquill.specs.Ticks.{kindOf, tickOf, atOf, outcomeOf, tickAnswer, deadlineRunAnswer, ranAs, tick-accepts, deadline-run-accepts, TickOnce, once-counts, once-keeps, Spills, Lacks, OneTick, one-overflows, one-lacks, one-cleans, one-stays, one-leaves, TicksTo, answer-one, answer-exactly, Ends, HowMany, total, Waits, Rising, trace, entriesOf, FiredAt, source-entries, entries-when, entries-apart, entries-first, entries-rise}
+use Rattle.ardenquill.specs.Ticks.{kindOf, tickOf, atOf, outcomeOf, tickAnswer, deadlineRunAnswer, ranAs, left, tick-accepts, tick-9, deadline-run-accepts, TickOnce, once-counts, once-keeps, Spills, Lacks, OneTick, one-overflows, one-lacks, one-cleans, one-stays, one-leaves, TicksTo, answer-one, answer-exactly, Ends, HowMany, total, Waits, Rising, trace, entriesOf, FiredAt, source-entries, entries-when, entries-apart, entries-first, entries-rise}
 use Rattle.ardenquill.specs.Flat.{coded, flat}
-use Rattle.ardenquill.specs.Records.{Chain, ChainAnswer, LengthAnswer, Analysis, Run, Outcome, Clean, Overflowed, NoDeadline, Ticked, TickAnswer}
+use Rattle.ardenquill.specs.Records.{Refusal, Chain, ChainAnswer, LengthAnswer, Analysis, Run, Outcome, Clean, Overflowed, NoDeadline, Ticked, TickAnswer}
 use Rattle.ardenquill.specs.Reports.{reportText, reportRefusal, report-accepts}
-use Rattle.promises.specs.Replay.{pOf, τOf, cOf, Accepts, line, rateX, rateY, replayAnswer, Fires, Ample, Low, NearestFirst, Runs, accepts-is, fires-is}
-use Rattle.promises.specs.Laws.{report-is, x-is, y-is, by-is, capacity-is, rate-x-is, rate-y-is, last, minimum-by, minimum-as, largest-multiple, may-run-is, index-down, taken, state-is, moment, follows-at, parts, sound, ends-in, keeps, fed-by, minimum-is, margin-is, output-silent, code-overflowed, code-undated, code-clean}
+use Rattle.promises.specs.Replay.{pOf, τOf, cOf, Accepts, line, rateX, rateY, replayAnswer, Fires, AllSlots, Passes, Ample, Low, NearestFirst, Runs, accepts-is, fires-is}
+use Rattle.promises.specs.Laws.{report-is, x-is, y-is, by-is, capacity-is, rate-x-is, rate-y-is, last, minimum-by, minimum-as, largest-multiple, may-run-is, run-quiet, silents-append, whole, passes-is, index-down, taken, state-is, moment, follows-at, parts, sound, ends-in, keeps, fed-by, minimum-is, margin-is, output-silent, code-overflowed, code-undated, code-clean}
 use Rattle.promises.specs.ByTicks.{DeadlineRuns, ticksFrom, ticks-are-run}
 use Rattle.promises.specs.Demand1.{tick-stays, deadline-run-empty}
 
@@ -234,14 +236,18 @@ pub record FiredOnce (c : Chain) (s : Run) (i : ℕ) (t : Run) : Type 0 where
 module _ (c : Chain) (s : Run) (i : ℕ) where
   -- "manual firing .. equal the published Processing Graph Method rules as document 01 condenses them" (004, definition 5.2): it is accepted exactly when the chain
   -- is, the state passes 17, and 9, 11 and 12 are silent
-  pub fire-when : (fireAnswer c s i .number ≡ 0) ↔ (Accepts c × (StateSound c s × May c s i))
+  pub fire-when : (fireAnswer c s i .number ≡ 0) ↔ (Accepts c × (((j : ℕ) → j < c .n → Passes c s j) × May c s i))
   unfolding fireAnswer runs.answered
-  fire-when = Iff·trans (fire-accepts c s i) (Iff·and (accepts-is c .1, accepts-is c .0) Iff·rfl)
+  fire-when = Iff·trans (fire-accepts c s i) (
+    λ k. let a = accepts-is c .1 (k .0) in (a, (passes-is c s a .0 (k .1 .0), k .1 .1)),
+    λ k. (accepts-is c .0 (k .0), (passes-is c s (k .0) .1 (k .1 .0), k .1 .1)),
+  )
 
   -- and what it then does to a state of 17 counts and 16 queues, as every state is
-  pub fire-does : Whole s → fireAnswer c s i .number ≡ 0 → FiredOnce c s i (fireAnswer c s i .run)
+  pub fire-does : AllSlots s → fireAnswer c s i .number ≡ 0 → FiredOnce c s i (fireAnswer c s i .run)
   unfolding fireAnswer runs.answered fired
-  fire-does w ok =
+  fire-does slots ok =
+      let w : Whole s = whole slots in
       let f : Firing c s i = firing-is c s i .0 ok in
       rw (fire-accepted c s i ok) (record {
         count = count-fired c s i (omega (arith, w .counts, f .chain .chain .count .1, f .may .node));
@@ -321,6 +327,10 @@ module _ (c : Chain) (T : ℕ) (ran : DeadlineRuns c T) where
 
   -- "it ends clean"
   module _ (z : deadlineRunAnswer c T .outcome ≡ Clean) where
+    -- "a run of T ticks"
+    pub run-clock : deadlineRunAnswer c T .run .clock ≡ T
+    run-clock = ticks.run-clock c T ran z
+
     -- "the source fires if y divides t": it has fired T/y times, rounded up
     pub run-source : countAt (deadlineRunAnswer c T .run) 0 ≡ ceil T (c .period)
     run-source = ticks.run-source c T ran z
@@ -350,42 +360,72 @@ module _ (c : Chain) (T : ℕ) (ran : DeadlineRuns c T) where
       pub trace-first : 0 < length (entriesOf c T (suc j)) → workOf c j ≤ getD (entriesOf c T (suc j)) 0 0
       trace-first = entries-first c T ran z j l
 
+-- "a count at 4,294,967,295 .., place the lowest such node"
+pub record SpentFirst (c : Chain) (s : Run) (L : ℕ) : Type 0 where
+  pub node : L ≤ c .n
+  pub spent : countAt s L ≡ 4294967295
+  pub before : (j : ℕ) → j < L → countAt s j ≢ 4294967295
+
 module _ (c : Chain) (s : Run) where
   -- a tick is accepted exactly when the chain is, no capacity is below the minimum, the state passes 17, and neither a "clock of 1,000,000 or more" nor "a count at
   -- 4,294,967,295" is 9
-  pub tick-when : (tickAnswer c s .number ≡ 0) ↔ ((Accepts c × ((j : ℕ) → j < c .n → Ample c j)) × (StateSound c s × ((s .clock < 1000000) × ((i : ℕ) → i ≤ c .n → countAt s i ≢ 4294967295))))
+  pub tick-when : (tickAnswer c s .number ≡ 0)
+      ↔ ((Accepts c × ((j : ℕ) → j < c .n → Ample c j)) × (((j : ℕ) → j < c .n → Passes c s j) × ((s .clock < 1000000) × ((i : ℕ) → i ≤ c .n → countAt s i ≢ 4294967295))))
   unfolding tickAnswer outcomeOf
-  tick-when = Iff·trans (tick-accepts c s) (Iff·and (may-run-is c) Iff·rfl)
+  tick-when = Iff·trans (tick-accepts c s) (
+    λ k. let m = may-run-is c .0 (k .0) in (m, (passes-is c s (m .0) .0 (k .1 .0), k .1 .1)),
+    λ k. (may-run-is c .1 (k .0), (passes-is c s (k .0 .0) .1 (k .1 .0), k .1 .1)),
+  )
 
-  -- one that is, of a state of 17 counts, 16 queues and 16 nodes' work, as every state is
-  module _ (w : Whole s) (ok : tickAnswer c s .number ≡ 0) where
+  -- "A tick handed a clock of 1,000,000 or more is 9, place 0; then a count at 4,294,967,295 is 9, place the lowest such node", where nothing earlier is refused
+  pub tick-nine : Accepts c × ((j : ℕ) → j < c .n → Ample c j) → ((j : ℕ) → j < c .n → Passes c s j) → (L : ℕ)
+      → ((tickAnswer c s .number ≡ 9) × (tickAnswer c s .place ≡ L)) ↔ (((1000000 ≤ s .clock) × (L ≡ 0)) ⊎ ((s .clock < 1000000) × SpentFirst c s L))
+  unfolding Silents tickAnswer outcomeOf
+  tick-nine may pass L = (
+    λ h. ⊎-elim (λ a. inl a) (λ a. inr (a .0, record { node = a .1 .node; spent = a .1 .spent; before = a .1 .before })) (tick-9 c s L .0 (λ k. record { number = h .0 k; place = h .1 k }) .1),
+    λ h.
+        let quiet = silents-append (runChecks c) (stateCheck c s ∷ []) (run-quiet c may) (state-silent c s .1 (passes-is c s (may .0) .1 pass), tt) in
+        let e = tick-9 c s L .1 (quiet, ⊎-elim (λ a. inl a) (λ a. inr (a .0, record { node = a .1 .node; spent = a .1 .spent; before = a .1 .before })) h) in
+        (ap (λ (r : Refusal). r .number) e, ap (λ (r : Refusal). r .place) e),
+  )
+
+  -- one that is, of a state with all its slots
+  module _ (slots : AllSlots s) (ok : tickAnswer c s .number ≡ 0) where
+    -- it is one tick
+    one : OneTick c s (left (tickAnswer c s))
+    one = answer-one c s (whole slots) ok
+
     -- "One tick at clock t is the source's step, one tick of work, the clock going to t+1, and the effect at t+1 of a firing then finished": it answers one such tick,
     -- and nothing else
     pub tick-is : (x : Ticked) → (tickAnswer c s ≡ ranAs x) ↔ OneTick c s x
-    tick-is = answer-exactly c s w ok
+    tick-is = answer-exactly c s (whole slots) ok
 
     -- "overflowed at (tick, queue)": exactly when y divides the clock and queue 0 has no room, at the clock and at queue 0
     pub tick-overflows : (t q : ℕ) → (tickAnswer c s .outcome ≡ Overflowed t q) ↔ (((t ≡ s .clock) × (q ≡ 0)) × ((c .period ∣ s .clock) × (line c 0 .capacity < heldAt s 0 + pOf c 0)))
     tick-overflows t q =
         let a : Accepted c = accepts-is c .0 (tick-when .0 ok .0 .0) in
-        rw (capacity-is c a 0 (a .chain .count .0)) (one-overflows (answer-one c s w ok) t q)
+        rw (capacity-is c a 0 (a .chain .count .0)) (one-overflows one t q)
 
     -- "13 .. when, after the source's step, an over-threshold node's deadline can't be had, place the lowest such over-threshold node"
     pub tick-lacks : (t i : ℕ) → (tickAnswer c s .outcome ≡ NoDeadline t i) ↔ ((t ≡ s .clock) × Lacks c s i)
-    tick-lacks = one-lacks (answer-one c s w ok)
+    tick-lacks = one-lacks one
 
     -- "it ends clean": exactly otherwise
     pub tick-cleans : (tickAnswer c s .outcome ≡ Clean) ↔ ((Spills c s → ⊥) × ((i : ℕ) → Lacks c s i → ⊥))
-    tick-cleans = one-cleans (answer-one c s w ok)
+    tick-cleans = one-cleans one
 
     -- "the state being that before the production", and of 13 "that before the source's step": a tick that overflows or has no deadline leaves the state as it was
     pub tick-ends : tickAnswer c s .outcome ≢ Clean → tickAnswer c s .run ≡ s
-    tick-ends = one-stays (answer-one c s w ok)
+    tick-ends = one-stays one
 
     module _ (z : tickAnswer c s .outcome ≡ Clean) where
       -- a clean one leaves what the source's step, one tick of work and its effect make of the state, field by field
       pub tick-leaves : TickOnce c s (tickAnswer c s .run)
-      tick-leaves = one-leaves (answer-one c s w ok) z
+      tick-leaves = one-leaves one z
+
+      -- "the clock going to t+1"
+      pub tick-clock : tickAnswer c s .run .clock ≡ s .clock + 1
+      tick-clock = tick-leaves .work .clock ∙ ap (λ (t : ℕ). t + 1) (tick-leaves .source .clock)
 
       -- "the source fires if y divides t", and else does not
       pub source-fires : (countAt (tickAnswer c s .run) 0 ≡ countAt s 0 + 1) ↔ (c .period ∣ s .clock)

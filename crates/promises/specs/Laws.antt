@@ -5,7 +5,9 @@
 --   report-is                the analysis that is answered
 --   last, minimum-by, minimum-as, largest-multiple
 --                            the residue of a queue, its minimum by it and by what else it is, and that it is a largest multiple
---   may-run-is               two ways to say of a chain that it may run
+--   may-run-is, run-quiet    two ways to say of a chain that it may run; and then none of the checks of a run speaks
+--   silents-append           nor of two lists of checks in a row where none of either does
+--   whole, passes-is         two ways to say of a state that it has all slots, and that it passes 17
 --   index-down               an index on the way down to the source
 --   taken, fed-by            what a firing takes, and a count from the one before it
 --   prompt, follows-at       an order firing by firing, and a firing of it
@@ -26,18 +28,18 @@ use native.Mathlib.Nat.{zero-add, zero-mod, mod-eq-zero-of-dvd, dvd-of-mod-eq-ze
 use native.Mathlib.Omega.{arith}
 use lib.ListN.{getD}
 use borrow.Author.Tests.{lt-leb}
-use Rattle.ardenquill.specs.Chains.{row, rowOf, first, Silent, Sound}
+use Rattle.ardenquill.specs.Chains.{row, rowOf, first, Silent, Silents, first-silent, Sound}
 use Rattle.ardenquill.specs.Files.{bytesOf, packedLength, header, rows, nodes, packed, roomCheck, writeRefusal, Output}
 use Rattle.ardenquill.specs.Analyses as sizes
-use Rattle.ardenquill.specs.Analyses.{gcd, gcd-pos-left, residue, Largest, residue-largest, xOf, yOf, source-rate, minimumOf, namingOf, capacityOf, marginOf, sizeBy, sizeOf, noSize, size-at, analysisOf, analyseAnswer, Accepted, analysed, Enough}
-use Rattle.ardenquill.specs.Runs.{heldAt, freshRun, answered, fired, Whole, Firing, held-input, over-enough, AlikeChains, flat-alike, record-alike}
+use Rattle.ardenquill.specs.Analyses.{gcd, gcd-pos-left, residue, Largest, residue-largest, xOf, yOf, source-rate, minimumOf, namingOf, capacityOf, marginOf, sizeBy, sizeOf, noSize, size-at, analysisOf, analyseAnswer, Accepted, analysed, Enough, runChecks, runRefusal, run-accepts}
+use Rattle.ardenquill.specs.Runs.{heldAt, freshRun, answered, fired, StateSound, Whole, Firing, held-input, over-enough, AlikeChains, flat-alike, record-alike}
 use Rattle.ardenquill.specs.Histories.{after, Permitted, Prompt, EachFiring}
 use Rattle.ardenquill.specs.Immediate as immediate
 use Rattle.ardenquill.specs.Immediate.{F, fires, Reached, schedule, Next, Follows, most, immediateRefusal, immediateAnswer, immediate-accepts, immediate-ran}
 use Rattle.ardenquill.specs.Deadlines.{earlier, index}
 use Rattle.ardenquill.specs.Ticks.{kindOf, tickOf, atOf}
 use Rattle.ardenquill.specs.Records.{Refusal, Queue, Chain, LengthAnswer, QueueSize, Analysis, AnalysisAnswer, Run, Outcome, Clean, Overflowed, NoDeadline}
-use Rattle.promises.specs.Replay.{pOf, τOf, cOf, Accepts, Ample, line, rateX, rateY, replayAnswer, Fires, LowAt, AtOnce, Runs, accepts-is, fires-is, fires-state, fires-before}
+use Rattle.promises.specs.Replay.{pOf, τOf, cOf, Accepts, AllSlots, Passes, Ample, line, rateX, rateY, replayAnswer, Fires, LowAt, AtOnce, Runs, accepts-is, fires-is, fires-state, fires-before}
 
 -- the line of a queue of an accepted chain
 module _ (c : Chain) (a : Accepted c) where
@@ -103,6 +105,28 @@ pub may-run-is : (c : Chain) → (Accepted c × ((j : ℕ) → j < c .n → Enou
 may-run-is c = (
   λ p. (accepts-is c .1 (p .0), λ j l. rw (minimum-is c (p .0) j l) (p .1 j l)),
   λ p. let a : Accepted c = accepts-is c .0 (p .0) in (a, λ j l. rw (minimum-is c a j l) at (p .1 j l)),
+)
+
+-- and then none of the checks of a run speaks
+pub run-quiet : (c : Chain) → Accepts c × ((j : ℕ) → j < c .n → Ample c j) → Silents (runChecks c)
+unfolding runRefusal
+run-quiet c may = first-silent (runChecks c) .0 (run-accepts c .1 (may-run-is c .1 may))
+
+-- none of two lists of checks in a row speaks where none of either does
+pub silents-append : (rs qs : List Refusal) → Silents rs → Silents qs → Silents (rs ++ qs)
+unfolding Silents
+silents-append [] qs a b = b
+silents-append (r ∷ rs) qs a b = (a .0, silents-append rs qs (a .1) b)
+
+-- two ways to say of a state that it has all slots
+pub whole : {s : Run} → AllSlots s → Whole s
+whole k = record { counts = k .counts; held = k .held; done = k .done }
+
+-- and that it passes 17
+pub passes-is : (c : Chain) (s : Run) → Accepts c → StateSound c s ↔ ((j : ℕ) → j < c .n → Passes c s j)
+passes-is c s ok = (
+  λ k j l. record { balance = k j l .0 .0; capacity = rw (capacity-is c (accepts-is c .0 ok) j l) (k j l .0 .1); work = k j l .1 },
+  λ k j l. ((k j l .balance, rw (capacity-is c (accepts-is c .0 ok) j l) at (k j l .capacity)), k j l .work),
 )
 
 -- N_j's index on the way down from N_(i+1) is that from N_i

@@ -4,6 +4,7 @@ pub mod Laws
 pub mod ByTicks
 pub mod Demand1
 pub mod Demand2
+pub mod TickInNumbers
 pub mod Demand3
 pub mod Beyond
 pub mod Replayed

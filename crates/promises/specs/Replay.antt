@@ -11,6 +11,8 @@
 --   Fires c h                a permitted order: fresh and each fire accepts
 --   Always c h P, Sometime c h P
 --                            P holds of the state at every moment of h, at some moment of h; a moment is the end of what h begins with
+--   AllSlots s               17 counts, 16 queues and 16 nodes' work, as every state has
+--   Passes c s j             none of 17's reasons holds at queue j
 --   Ample c i                queue i's capacity, if written, is not below its reported minimum
 --   Low c s, LowAt c s i     in the state s no queue's consumer is over threshold, so that only the source may fire; queue i's is not
 --   AtOnce c h               no node fires while the node that it feeds is over threshold
@@ -26,14 +28,14 @@ use mathlib.Core.Path.{_≡_, refl, sym, ap, subst, _∙_}
 use mathlib.Core.Bool.{cond}
 use mathlib.Core.Logic.{_↔_, _⊎_, by-cases}
 use mathlib.Core.List.{List, [], _∷_, _++_}
-use Prim.Native.Nat.{ℕ, zero, suc, _≤_, _<_}
+use Prim.Native.Nat.{ℕ, zero, suc, _+_, _*_, _≤_, _<_}
 use native.Mathlib.Decide.{ℕ-discrete}
 use lib.Dec.{eqb}
-use lib.ListN.{getD}
+use lib.ListN.{length, getD}
 use borrow.Author.Tests.{eq-eqb, ne-eqb}
-use Rattle.ardenquill.specs.Chains.{rowOf}
-use Rattle.ardenquill.specs.Analyses.{noSize, analyseAnswer, Accepted, analyse-accepts}
-use Rattle.ardenquill.specs.Runs.{heldAt, freshRun, answered, freshAnswer, fresh-state, fired, fireAnswer, fire-accepted}
+use Rattle.ardenquill.specs.Chains.{rowOf, workOf}
+use Rattle.ardenquill.specs.Analyses.{start, noSize, analyseAnswer, Accepted, analyse-accepts}
+use Rattle.ardenquill.specs.Runs.{countAt, heldAt, doneAt, freshRun, answered, freshAnswer, fresh-state, fired, fireAnswer, fire-accepted}
 use Rattle.ardenquill.specs.Histories.{AtSome, after, Permitted, EachFiring, each-before}
 use Rattle.ardenquill.specs.Immediate.{Next, immediateAnswer}
 use Rattle.ardenquill.specs.Records.{Chain, QueueSize, Run, RunAnswer}
@@ -91,6 +93,18 @@ Sometime c h P = AtSome h (λ g. P (replayAnswer c g .run))
 -- "no capacity is below the reported minimum", of queue i
 abbrev pub Ample : Chain → ℕ → Type 0
 Ample c i = (rowOf c i .capacity ≡ 0) ⊎ (line c i .minimum ≤ rowOf c i .capacity)
+
+-- as the type of a state says
+pub record AllSlots (s : Run) : Type 0 where
+  pub counts : length (s .counts) ≡ 17
+  pub held : length (s .held) ≡ 16
+  pub done : length (s .done) ≡ 16
+
+-- 17: "breaks the balance (p × producer's count − c × consumer's count is not what is held), passes a capacity, or has work done of e or more", none of it at queue j
+pub record Passes (c : Chain) (s : Run) (j : ℕ) : Type 0 where
+  pub balance : start (rowOf c j) + pOf c j * countAt s j ≡ heldAt s j + cOf c j * countAt s (suc j)
+  pub capacity : heldAt s j ≤ line c j .capacity
+  pub work : doneAt s j < workOf c j
 
 -- the node that N_i feeds, if any, is below threshold
 abbrev pub LowAt : Chain → Run → ℕ → Type 0
