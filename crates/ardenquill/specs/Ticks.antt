@@ -14,7 +14,7 @@ pub use Rattle.instants.specs.Spill.{room-after-choice}
 pub use Rattle.instants.specs.Source.{divides-is, Due, Full, Fits, source-spills, source-fires, source-rests, SourceOnce, source-only}
 pub use Rattle.instants.specs.Outcomes.{Dated, lacking-once, lacking-dated}
 pub use Rattle.instants.specs.Once.{Works, works-is, Effect, WorkOnce, work-only, TickOnce, once-counts, once-keeps}
-pub use Rattle.instants.specs.Exactly.{Spills, Lacks, Spilled, Lacked, Stopped, Cleaned, OneTick, one-overflows, one-lacks, one-cleans, one-stays, one-leaves, clean-only, one-tick-only, tick-exactly, finish-never-spills, Then, ticks-to-only, ticks-exactly, run-exactly, ticks-never-spill, run-never-spills}
+pub use Rattle.instants.specs.Exactly.{Spills, Lacks, Spilled, Lacked, Stopped, Cleaned, OneTick, one-overflows, one-lacks, one-cleans, one-stays, one-leaves, clean-only, one-tick-only, tick-exactly, finish-never-spills, Then, ticks-to-only, ticks-exactly, ticks-never-spill, run-never-spills}
 unfoldable pub use Rattle.instants.specs.Exactly.{TicksTo}
 pub use Rattle.instants.specs.Answers.{left, answer-one, answer-exactly, answer-ends, paced-ticking, run-may, ran-to, run-answers, run-start, at-clock, run-next, run-stops, run-stays, run-before, Ends, run-ends, CleanStep, along}
 unfoldable pub use Rattle.instants.specs.Totals.{spentOn, HowMany}

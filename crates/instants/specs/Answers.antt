@@ -27,9 +27,9 @@ use Rattle.instants.specs.Checks.{longest, tickRefusal, outcomeOf, tickA
 use Rattle.instants.specs.Refusals.{Ticking, ticking-is, ranAs, tick-ran, deadline-run-accepts, deadline-run-ran}
 use Rattle.instants.specs.Runs.{clean-or, onward-goes, onward-stops, ticks-none, ticks-last}
 use Rattle.instants.specs.Kept.{Running}
-use Rattle.instants.specs.Fresh.{run-is-ticks, Paced, paced-countable, ticks-paced}
+use Rattle.instants.specs.Fresh.{fresh-running, run-is-ticks, Paced, paced-countable, ticks-paced}
 use Rattle.instants.specs.Once.{TickOnce}
-use Rattle.instants.specs.Exactly.{OneTick, TicksTo, is-one, one-overflows, one-lacks, one-leaves, tick-exactly, run-exactly}
+use Rattle.instants.specs.Exactly.{OneTick, TicksTo, is-one, one-overflows, one-lacks, one-leaves, tick-exactly, ticks-exactly}
 use Rattle.instants.specs.declared.Outcome.{Outcome}
 use Rattle.instants.specs.declared.Outcome.the-variants.{Clean, Overflowed, NoDeadline}
 use Rattle.instants.specs.declared.Ticked.{Ticked}
@@ -99,9 +99,7 @@ module _ (c : Chain) (T : ℕ) (ok : deadlineRunAnswer c T .number ≡ 0) where
 
   -- it answers what T ticks of a fresh start end with, and nothing else
   pub run-answers : (x : Ticked) → (deadlineRunAnswer c T ≡ ranAs x) ↔ TicksTo c T (freshRun c) x
-  run-answers x =
-      Iff·trans (ran-same (deadlineRunAnswer c T) (ticks c T (freshRun c)) x (ran-to T (le-refl T)))
-      (Iff·trans (λ e. run-is-ticks (run-may .0 .0) T ∙ e, λ e. sym (run-is-ticks (run-may .0 .0) T) ∙ e) (run-exactly (run-may .0 .1) (run-may .0 .0) T x))
+  run-answers x = Iff·trans (ran-same (deadlineRunAnswer c T) (ticks c T (freshRun c)) x (ran-to T (le-refl T))) (ticks-exactly (run-may .0 .1) T (fresh-running (run-may .0 .0)) x)
 
   -- of no ticks it answers a fresh start
   pub run-start : deadlineRunAnswer c 0 ≡ ranAs (clean (freshRun c))

@@ -14,11 +14,11 @@
 --   Then c s R                 R holds of the state that a clean tick of s leaves
 --   TicksTo c T s x            T ticks of s, as far as they are clean, end with x
 --   ticks-to-only              there is at most one such x
---   ticks-exactly, run-exactly so many ticks, and a deadline run, end with that
+--   ticks-exactly              so many ticks end with that
 --   ticks-never-spill, run-never-spills
---                              so an overflow of them is at queue 0
+--                              so an overflow of them, and of a deadline run, is at queue 0
 use mathlib.Core.Path.{_≡_, refl, sym, ap, subst, _∙_}
-use mathlib.Core.Logic.{_↔_, _⊎_, inl, inr, ⊎-elim, Iff·trans}
+use mathlib.Core.Logic.{_↔_, _⊎_, inl, inr, ⊎-elim}
 use Prim.Native.Nat.{ℕ, zero, suc, _<_}
 use native.Mathlib.Omega.{arith}
 use Rattle.chain.specs.declared.Chain.{Chain}
@@ -218,10 +218,7 @@ module _ {c : Chain} (enough : (j : ℕ) → j < c .n → Enough c j) where
   pub ticks-exactly : (T : ℕ) {s : Run} → Running c s → (x : Ticked) → (ticks c T s ≡ x) ↔ TicksTo c T s x
   ticks-exactly T {s} r x = (λ e. subst (TicksTo c T s) e (is-many T r), λ h. ticks-to-only c T s (ticks c T s) x (is-many T r) h)
 
-  -- "a run of T ticks from a fresh start"
-  pub run-exactly : Accepted c → (T : ℕ) (x : Ticked) → (instants c T (freshRun c) ≡ x) ↔ TicksTo c T (freshRun c) x
-  run-exactly a T x = Iff·trans (λ e. sym (run-is-ticks a T) ∙ e, λ e. run-is-ticks a T ∙ e) (ticks-exactly T (fresh-running a) x)
-
+  -- so an overflow of them is at queue 0, and of a deadline run
   pub ticks-never-spill : (T : ℕ) {s : Run} → Running c s → (t q : ℕ) → ticks c T s .outcome ≡ Overflowed t q → q ≡ 0
   ticks-never-spill T {s} r t q e = to-queue-0 c T s (ticks c T s) t q e (is-many T r)
 
