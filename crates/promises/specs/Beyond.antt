@@ -10,8 +10,7 @@
 --   run-overflow             an overflow is of the source's production, into queue 0
 --   carried-on               a run of a+b ticks is a run of a ticks, carried on for b
 --   thirteen                 13 is the number of the runs that end for want of a deadline
---   never-full               nodes that fire at once are never stopped by a full queue
---   filled, reached          where they do, a producer that has fired the naming count has filled its queue to exactly the minimum
+--   filled, reached          where nodes fire at once, a producer that has fired the naming count has filled its queue to exactly the minimum
 --   any-order, run-any-order permitted orders of equally many source firings that leave only the source to fire end in one state, the immediate run's
 --   feed, feed-line          the factory chain 0, whose queue has the minimum 10, by 4 firings of the source
 --   three-short              no smaller naming count would do: an accepted list with 3 firings of the source, in which the queue never holds 10
@@ -21,18 +20,18 @@ use mathlib.Core.Logic.{_↔_}
 use mathlib.Core.List.{List, [], _∷_}
 use Prim.Native.Nat.{ℕ, suc, _+_, _*_, _≤_, _<_}
 use native.Mathlib.Omega.{arith}
-use lib.ListN.{length, getD}
-use Rattle.ardenquill.specs.Chains.{refused, rowOf, Sound, queue, made, factoryAnswer}
-use Rattle.ardenquill.specs.Analyses.{start, minimumOf, capacityOf, enough-capacity, analyseAnswer, Accepted}
-use Rattle.ardenquill.specs.Runs.{countAt, heldAt, freshRun, answered, fireRefusal, fireAnswer, fire-12}
+use Rattle.ardenquill.specs.Chains.{rowOf, Sound, queue, made, factoryAnswer}
+use Rattle.ardenquill.specs.Analyses.{start, analyseAnswer, Accepted}
+use Rattle.ardenquill.specs.Runs.{countAt, heldAt, freshRun}
 use Rattle.ardenquill.specs.Histories as histories
 use Rattle.ardenquill.specs.Histories.{times, after, at-some}
 use Rattle.ardenquill.specs.Immediate as immediate
-use Rattle.ardenquill.specs.Immediate.{Reached, reached-after, below-minimum, schedule, immediateAnswer}
-use Rattle.ardenquill.specs.Ticks.{numberOf, valuesOf, kindOf, onward, ticks, instants, deadlineRunAnswer, ranAs, run-is-ticks, ticks-more, nodes, trace, resting, run-traced, run-never-spills, run-may}
+use Rattle.ardenquill.specs.Immediate.{schedule, immediateAnswer}
+use Rattle.ardenquill.specs.Ticks.{numberOf, kindOf, onward, ticks, instants, deadlineRunAnswer, ranAs, run-is-ticks, ticks-more, nodes, trace, resting, run-traced, run-never-spills, run-may}
 use Rattle.ardenquill.specs.Flat.{flat}
 use Rattle.ardenquill.specs.Records.{Chain, Run, Outcome, Clean, Overflowed, NoDeadline, Ticked, TickAnswer}
-use Rattle.promises.specs.Replay.{pOf, cOf, line, replayAnswer, Fires, Sometime, Ample, LowAt, Low, AtOnce, Runs, fires-is, fires-state}
+use Rattle.promises.specs.Outcomes.{Cleanly, OverflowedAt, overflowed-is}
+use Rattle.promises.specs.Replay.{pOf, cOf, line, replayAnswer, Fires, Sometime, LowAt, Low, AtOnce, Runs, fires-is, fires-state}
 use Rattle.promises.specs.Laws.{minimum-is, by-is, accepted, permits, state-is, moment, prompts, Each, each-at, Firings, firing-at}
 use Rattle.promises.specs.ByTicks.{DeadlineRuns, answer-is}
 use Rattle.promises.specs.Demand2.{immediate-fires, immediate-state, immediate-rule, immediate-source, immediate-ends}
@@ -48,7 +47,7 @@ feedWorking e B = made 10 (queue 4 7 3 B ∷ []) (e ∷ [])
 pub load-below-one-overflows : let a = analyseAnswer (feedWorking 7 0) in
     let r = deadlineRunAnswer (feedWorking 7 0) 41 in
     ((a .number ≡ 0) × ((a .analysis .busy ≡ 28) × (a .analysis .cycle ≡ 30)))
-    × (((r .number ≡ 0) × ((numberOf (r .outcome) ≡ 0) × (valuesOf (r .outcome) ≡ 40 ∷ 0 ∷ []))) × ((countAt (r .run) 0 ≡ 4) × ((countAt (r .run) 1 ≡ 3) × (heldAt (r .run) 0 ≡ 7))))
+    × (((r .number ≡ 0) × OverflowedAt (r .outcome) 40 0) × ((countAt (r .run) 0 ≡ 4) × ((countAt (r .run) 1 ≡ 3) × (heldAt (r .run) 0 ≡ 7))))
 unfolding analyseAnswer deadlineRunAnswer
 load-below-one-overflows = ((refl, (refl, refl)), ((refl, (refl, refl)), (refl, (refl, refl))))
 
@@ -59,9 +58,9 @@ unfolding deadlineRunAnswer
 overflow-for-c = ((refl, refl), ((refl, (refl, refl)), (refl, (refl, refl))))
 
 -- "With B=12 it is clean to tick 90"
-pub larger-clean : deadlineRunAnswer (feedWorking 7 12) 90 .outcome ≡ Clean
+pub larger-clean : let r = deadlineRunAnswer (feedWorking 7 12) 90 in (r .number ≡ 0) × Cleanly (r .outcome)
 unfolding deadlineRunAnswer
-larger-clean = refl
+larger-clean = (refl, (refl, refl))
 
 -- the nodes that fired in a deadline run, in order
 abbrev pub firings : Chain → ℕ → List ℕ
@@ -97,13 +96,9 @@ module _ (c : Chain) (T : ℕ) (ran : DeadlineRuns c T) where
   run-naming j l often = demand.naming c (firings c T) run-fires j l (omega (arith, run-counted j (omega arith)))
 
   -- "overflowed at (tick, queue)" is always at queue 0: no firing that has worked its execution time is stopped by a full queue
-  pub run-overflow : (t q : ℕ) → numberOf (deadlineRunAnswer c T .outcome) ≡ 0 → valuesOf (deadlineRunAnswer c T .outcome) ≡ t ∷ q ∷ [] → q ≡ 0
-  run-overflow t q = by (deadlineRunAnswer c T .outcome) refl
-    where
-      by : (o : Outcome) → deadlineRunAnswer c T .outcome ≡ o → numberOf o ≡ 0 → valuesOf o ≡ t ∷ q ∷ [] → q ≡ 0
-      by Clean e z v = absurd (let n : _≡_ {A = ℕ} 0 2 = ap length v in omega arith)
-      by (Overflowed u r) e z v = sym (ap (λ (l : List ℕ). getD l 1 0) v) ∙ run-never-spills (run-may c T ran .0 .1) (run-may c T ran .0 .0) T u r (ap (λ (a : TickAnswer). a .outcome) (sym (answer-is c T ran)) ∙ e)
-      by (NoDeadline u i) e z v = absurd (omega arith)
+  pub run-overflow : (t q : ℕ) → OverflowedAt (deadlineRunAnswer c T .outcome) t q → q ≡ 0
+  run-overflow t q h =
+      run-never-spills (run-may c T ran .0 .1) (run-may c T ran .0 .0) T t q (ap (λ (a : TickAnswer). a .outcome) (sym (answer-is c T ran)) ∙ overflowed-is (deadlineRunAnswer c T .outcome) t q .0 h)
 
 -- a run of a+b ticks is a run of a ticks carried on for b
 pub carried-on : (c : Chain) (a b : ℕ) → DeadlineRuns c (a + b) → deadlineRunAnswer c (a + b) ≡ ranAs (onward (instants c a (freshRun c)) (ticks c b))
@@ -119,21 +114,7 @@ thirteen (Overflowed t q) = (λ e. absurd (omega arith), λ e. absurd (omega ari
 thirteen (NoDeadline t i) = (λ e. refl, λ e. refl)
 
 module _ (c : Chain) (h : List ℕ) (ok : Fires c h) where
-  -- nodes that fire at once are never stopped by a full queue, where no capacity is below the reported minimum: manual firing does not refuse
-  -- N_i with 12 while the node that it feeds is below threshold
-  pub never-full : (i : ℕ) → Ample c i → LowAt c (replayAnswer c h .run) i → fireAnswer c (replayAnswer c h .run) i .number ≡ 12 → ⊥
-  unfolding fireAnswer answered
-  never-full i big low e =
-      let a : Accepted c = accepted c h ok in
-      let s : Run = replayAnswer c h .run in
-      let r : Reached c s = rw (state-is c h ok) (reached-after (a .chain) h (permits c h ok)) in
-      let L : ℕ = fireRefusal c s i .place in
-      let says : fireRefusal c s i ≡ refused 12 L = λ t. record { number = e t; place = L } in
-      let f = fire-12 c s i L .0 says .1 .0 in
-      let cap : minimumOf (rowOf c i) ≤ capacityOf (rowOf c i) = enough-capacity c i (rw (minimum-is c a i (f .0)) at big) in
-      omega (arith, below-minimum (a .chain) r i (f .0) (low (f .0)), cap, f .1)
-
-  -- and a producer that has fired the naming count has filled its queue to exactly the minimum
+  -- a producer of an order in which nodes fire at once that has fired the naming count has filled its queue to exactly the minimum
   pub filled : AtOnce c h → (j : ℕ) → j < c .n → line c j .by ≤ times j h → Sometime c h (λ s. heldAt s j ≡ line c j .minimum)
   filled low j l often =
       let a : Accepted c = accepted c h ok in

@@ -10,8 +10,12 @@
 --                            the listed numbers of each call, in the order in which it tests them. When each is given exactly: read-1 to read-5, write-2 to
 --                            write-10, report-1 to report-10, factory-exact, analyse-2 to analyse-7, run-8, fire-17, fire-9, fire-11, fire-12,
 --                            immediate-9, deadline-11, deadline-13, tick-17, tick-9, deadline-run-9, and -earlier for what a call shares with the analysis
+--   zeroChain, zeroAnalysis, zeroRun, ZeroPast, ChainSlots
+--                            every result zero, written out; the slots past n zero (Zeros)
 --   read-, factory-, analyse-, checked-, fresh-, immediate-, deadline-, deadline-run-empty
 --                            what a refused call makes itself is zero
+--   read-, factory-, analysis-, fresh-slots
+--                            and so are the slots past n of what a call makes that is not refused
 --   writes-nothing           a refused call leaves every lent byte
 --   fire-stays, tick-stays, lent-stays
 --                            and gives back the run state that it was handed, or leaves it where it was lent
@@ -19,22 +23,22 @@
 --                            chains, and states, that differ in slots past n only (Runs)
 --   chain-past, write-past, fire-past, tick-past, fire-kept, tick-kept
 --                            slots past n are neither read nor changed
-use mathlib.Core.Path.{_≡_, refl, ap, _∙_}
+use mathlib.Core.Path.{_≡_, refl, ap, subst, _∙_}
 use mathlib.Core.Logic.{_≢_}
 use mathlib.Core.List.{List, [], _∷_}
-use Prim.Native.Nat.{ℕ}
+use Prim.Native.Nat.{ℕ, _<_}
 use native.Mathlib.Omega.{arith}
 use lib.Dec.{ltb, leb}
 use lib.ListN.{length, replicate}
-use borrow.Author.Tests.{ne-eqb}
-use Rattle.ardenquill.specs.Records.{Refusal, Chain, LengthAnswer, Run, Clean}
+use borrow.Author.Tests.{eq-eqb, ne-eqb}
+use Rattle.ardenquill.specs.Records.{Refusal, Chain, LengthAnswer, Run}
 use Rattle.ardenquill.specs.Chains as chains
-use Rattle.ardenquill.specs.Chains.{refused, Numbered, only-test, test-alone, emptyChain, factoryChains, factoryCheck, factoryRefusal, factoryAnswer}
-use Rattle.ardenquill.specs.Files.{readChecks, read-numbered, readRefusal, readAnswer, packed, roomCheck, room-only, writeChecks, write-numbered, writeRefusal, Output}
-use Rattle.ardenquill.specs.Analyses.{emptyAnalysis, sized, analyseChecks, analyse-numbered, analyseRefusal, analyseAnswer, runChecks, run-numbered, runRefusal, runAnswer}
+use Rattle.ardenquill.specs.Chains.{refused, Numbered, only-test, test-alone, trimmed, rowOf, workOf, factoryChains, trimmed-factory, factoryCheck, factoryRefusal, factoryAnswer}
+use Rattle.ardenquill.specs.Files.{readChecks, read-numbered, readRefusal, readAnswer, trimmed-read, packed, roomCheck, room-only, writeChecks, write-numbered, writeRefusal, Output}
+use Rattle.ardenquill.specs.Analyses.{start, sized, sizeOf, analysisOf, analyseChecks, analyse-numbered, analyseRefusal, analyseAnswer, analyse-accepts, runChecks, run-numbered, runRefusal, runAnswer}
 use Rattle.ardenquill.specs.Reports.{refusalText, reportText, reportChecks, report-numbered, reportRefusal}
 use Rattle.ardenquill.specs.Runs as runs
-use Rattle.ardenquill.specs.Runs.{emptyRun, freshAnswer, fireChecks, fire-numbered, fireRefusal, fireAnswer, fresh-refused, fire-refused, AlikeChains, AlikeRuns, KeptPast, analysis-alike, run-analysis-alike, fresh-alike, fire-alike}
+use Rattle.ardenquill.specs.Runs.{heldAt, freshRun, freshAnswer, fresh-held, fresh-state, fireChecks, fire-numbered, fireRefusal, fireAnswer, fresh-refused, fire-refused, AlikeChains, AlikeRuns, KeptPast, analysis-alike, run-analysis-alike, fresh-alike, fire-alike}
 use Rattle.ardenquill.specs.Immediate.{immediateChecks, immediate-numbered, immediateRefusal, immediateAnswer, immediate-refused, immediate-alike}
 use Rattle.ardenquill.specs.Deadlines.{answeredDue, deadlineChecks, deadline-numbered, deadlineRefusal, deadlineAnswer, deadline-refused}
 use Rattle.ardenquill.specs.Flat.{coded}
@@ -42,6 +46,8 @@ use Rattle.ardenquill.specs.declared.OutcomeAnswer.{OutcomeAnswer}
 use Rattle.ardenquill.specs.Ticks as ticks
 use Rattle.ardenquill.specs.Ticks.{outcomeOf, tickChecks, tick-numbered, tickRefusal, tickAnswer, deadlineRunChecks, deadline-run-numbered, deadlineRunRefusal, deadlineRunAnswer, KeptSlots, AlikeAnswers, question-alike, deadline-run-alike}
 use Rattle.promises.specs.Order.{InOrder, in-order}
+use Rattle.promises.specs.Outcomes.{Cleanly, cleanly-is}
+use Rattle.promises.specs.Zeros.{zeroRow, zeroLine, zeroChain, zeroAnalysis, zeroRun, ZeroPast, slots-zero, ChainSlots}
 use Rattle.promises.specs.Replay.{AllSlots}
 use Rattle.promises.specs.Laws.{whole, write-alike}
 
@@ -113,28 +119,28 @@ module _ (c : Chain) where
   deadline-run-numbers T = in-order _ _ (deadline-run-numbered c T) _ _ refl
 
 -- "Bad input gets one of the listed refusal numbers with its place", and nothing else: "A refusal gives number and place, all other results zero" (01)
-pub read-empty : (f : List ℕ) → readAnswer f .number ≢ 0 → readAnswer f .chain ≡ emptyChain
+pub read-empty : (f : List ℕ) → readAnswer f .number ≢ 0 → readAnswer f .chain ≡ zeroChain
 unfolding readAnswer chains.answered
 read-empty f n = simp (ne-eqb _ _ n)
 
-pub factory-empty : (k : ℕ) → factoryAnswer k .number ≢ 0 → factoryAnswer k .chain ≡ emptyChain
+pub factory-empty : (k : ℕ) → factoryAnswer k .number ≢ 0 → factoryAnswer k .chain ≡ zeroChain
 unfolding factoryAnswer chains.answered
 factory-empty k n = simp (ne-eqb _ _ n)
 
 module _ (c : Chain) where
-  pub analyse-empty : analyseAnswer c .number ≢ 0 → analyseAnswer c .analysis ≡ emptyAnalysis
+  pub analyse-empty : analyseAnswer c .number ≢ 0 → analyseAnswer c .analysis ≡ zeroAnalysis
   unfolding analyseAnswer sized
   analyse-empty n = simp (ne-eqb _ _ n)
 
-  pub checked-empty : runAnswer c .number ≢ 0 → runAnswer c .analysis ≡ emptyAnalysis
+  pub checked-empty : runAnswer c .number ≢ 0 → runAnswer c .analysis ≡ zeroAnalysis
   unfolding runAnswer sized
   checked-empty n = simp (ne-eqb _ _ n)
 
-  pub fresh-empty : freshAnswer c .number ≢ 0 → freshAnswer c .run ≡ emptyRun
+  pub fresh-empty : freshAnswer c .number ≢ 0 → freshAnswer c .run ≡ zeroRun
   unfolding freshAnswer runs.answered
   fresh-empty = fresh-refused c
 
-  pub immediate-empty : (k : ℕ) → immediateAnswer c k .number ≢ 0 → immediateAnswer c k .run ≡ emptyRun
+  pub immediate-empty : (k : ℕ) → immediateAnswer c k .number ≢ 0 → immediateAnswer c k .run ≡ zeroRun
   unfolding immediateAnswer runs.answered
   immediate-empty k = immediate-refused c k
 
@@ -142,9 +148,45 @@ module _ (c : Chain) where
   unfolding deadlineAnswer answeredDue
   deadline-empty i k = deadline-refused c i k
 
-  pub deadline-run-empty : (T : ℕ) → deadlineRunAnswer c T .number ≢ 0 → (deadlineRunAnswer c T .outcome ≡ Clean) × (deadlineRunAnswer c T .run ≡ record { clock = 0; counts = replicate 17 0; held = replicate 16 0; done = replicate 16 0 })
+  pub deadline-run-empty : (T : ℕ) → deadlineRunAnswer c T .number ≢ 0 → Cleanly (deadlineRunAnswer c T .outcome) × (deadlineRunAnswer c T .run ≡ zeroRun)
   unfolding deadlineRunAnswer outcomeOf
-  deadline-run-empty T n = (simp (ne-eqb _ _ n), simp (ne-eqb _ _ n))
+  deadline-run-empty T n = (cleanly-is (deadlineRunAnswer c T .outcome) .1 (simp (ne-eqb _ _ n)), simp (ne-eqb _ _ n))
+
+-- a chain that is its own first n slots has nothing in the others
+past-chain : (c : Chain) → trimmed c ≡ c → ChainSlots c
+unfolding trimmed
+past-chain c e = subst ChainSlots e (record { rows = slots-zero (rowOf c) zeroRow (c .n); work = slots-zero (workOf c) 0 (c .n) })
+
+-- the slots past n are zero of what a call makes itself, too: of a chain that is read, refused or not
+pub read-slots : (f : List ℕ) → ChainSlots (readAnswer f .chain)
+read-slots f = past-chain (readAnswer f .chain) (trimmed-read f)
+
+-- of a factory chain
+pub factory-slots : (k : ℕ) → ChainSlots (factoryAnswer k .chain)
+factory-slots k = past-chain (factoryAnswer k .chain) (trimmed-factory k)
+
+-- of an analysis, which has the chain's n
+pub analysis-slots : (c : Chain) → analyseAnswer c .number ≡ 0 → (analyseAnswer c .analysis .n ≡ c .n) × ZeroPast (c .n) zeroLine (analyseAnswer c .analysis .queues)
+unfolding analyseAnswer sized analysisOf
+analysis-slots c z = simp (eq-eqb _ _ z) (refl, slots-zero (sizeOf c) zeroLine (c .n))
+
+-- and of a fresh start, in which nothing has fired, no work is done, and each queue holds what it starts with
+pub record Started (c : Chain) (s : Run) : Type 0 where
+  pub clock : s .clock ≡ 0
+  pub counts : s .counts ≡ replicate 17 0
+  pub held : (j : ℕ) → j < c .n → heldAt s j ≡ start (rowOf c j)
+  pub slots : ZeroPast (c .n) 0 (s .held)
+  pub done : s .done ≡ replicate 16 0
+
+pub fresh-slots : (c : Chain) → freshAnswer c .number ≡ 0 → Started c (freshAnswer c .run)
+unfolding freshRun freshAnswer runs.answered
+fresh-slots c z = rw (fresh-state c z) (record {
+  clock = refl;
+  counts = refl;
+  held = fresh-held (analyse-accepts c .0 z .chain);
+  slots = slots-zero (λ i. start (rowOf c i)) 0 (c .n);
+  done = refl;
+})
 
 -- "a refused call writes nothing in lent memory": of every call that writes, whatever its checks and its text
 pub writes-nothing : {r : Refusal} {t o p : List ℕ} {a : LengthAnswer} → Output r t o p a → a .number ≢ 0 → (p ≡ o) × (a .length ≡ 0)
@@ -158,9 +200,9 @@ module _ (c : Chain) (s : Run) where
   unfolding fireAnswer runs.answered
   fire-stays i = fire-refused c s i
 
-  pub tick-stays : tickAnswer c s .number ≢ 0 → (tickAnswer c s .outcome ≡ Clean) × (tickAnswer c s .run ≡ s)
+  pub tick-stays : tickAnswer c s .number ≢ 0 → Cleanly (tickAnswer c s .outcome) × (tickAnswer c s .run ≡ s)
   unfolding tickAnswer outcomeOf
-  tick-stays n = (simp (ne-eqb _ _ n), simp (ne-eqb _ _ n))
+  tick-stays n = (cleanly-is (tickAnswer c s .outcome) .1 (simp (ne-eqb _ _ n)), simp (ne-eqb _ _ n))
 
   -- and so does the one that a controller lends to a tick: t is what it has become, and r the answer for C
   pub lent-stays : (t : Run) (r : OutcomeAnswer) → (t ≡ tickAnswer c s .run) × (r ≡ coded (tickAnswer c s)) → r .number ≢ 0 → t ≡ s

@@ -35,7 +35,9 @@
 --   Spills, Lacks c s i, TickOnce c s t
 --                            the source is due and has no room; after its step N_i is the lowest node over threshold with an index past the limit on its way; t is
 --                            what a clean tick leaves of s, field by field (Ticks)
---   Ends c T o               the run up to o's instant, before T, is clean, and the tick from there ends with o (Ticks)
+--   Says o N vs, Cleanly o, OverflowedAt o t q, UndatedAt o t i
+--                            an outcome by 01's number and values, and the three that there are (Outcomes)
+--   EndsAt c T N t at        the run up to the instant t, before T, is clean, and the tick from there ends with the number N and the values t and at
 --   Waits c s, total c s, HowMany P T m
 --                            a node is over threshold after the source's step; the ticks that all nodes have worked; m of the numbers below T have P (Ticks)
 --   deadline-run-when, deadline-run-is, by-ticks, run-ends
@@ -76,11 +78,12 @@ use Rattle.ardenquill.specs.Deadlines.{earlier, earlier-some, deadline, index, 
 use Rattle.ardenquill.specs.Ticks as ticks
 use Rattle.ardenquill.specs.Ticks.{kindOf, tickOf, atOf, outcomeOf, tickAnswer, deadlineRunAnswer, ranAs, left, tick-accepts, tick-9, deadline-run-accepts, TickOnce, once-counts, once-keeps, Spills, Lacks, OneTick, one-overflows, one-lacks, one-cleans, one-stays, one-leaves, TicksTo, answer-one, answer-exactly, Ends, HowMany, total, Waits, Rising, trace, entriesOf, FiredAt, source-entries, entries-when, entries-apart, entries-first, entries-rise}
 use Rattle.ardenquill.specs.Flat.{coded, flat}
-use Rattle.ardenquill.specs.Records.{Refusal, Chain, ChainAnswer, LengthAnswer, Analysis, Run, Outcome, Clean, Overflowed, NoDeadline, Ticked, TickAnswer}
+use Rattle.ardenquill.specs.Records.{Refusal, Chain, ChainAnswer, LengthAnswer, Analysis, Run, Outcome, Clean, Ticked, TickAnswer}
 use Rattle.ardenquill.specs.Reports.{reportText, reportRefusal, report-accepts}
 use Rattle.promises.specs.Replay.{pOf, τOf, cOf, Accepts, line, rateX, rateY, replayAnswer, Fires, AllSlots, Passes, Ample, Low, NearestFirst, Runs, accepts-is, fires-is}
-use Rattle.promises.specs.Laws.{report-is, x-is, y-is, by-is, capacity-is, rate-x-is, rate-y-is, last, minimum-by, minimum-as, largest-multiple, may-run-is, run-quiet, silents-append, whole, passes-is, index-down, taken, state-is, moment, follows-at, parts, sound, ends-in, keeps, fed-by, minimum-is, margin-is, output-silent, code-overflowed, code-undated, code-clean}
+use Rattle.promises.specs.Laws.{report-is, x-is, y-is, by-is, capacity-is, rate-x-is, rate-y-is, last, minimum-by, minimum-as, largest-multiple, may-run-is, run-quiet, silents-append, whole, passes-is, index-down, taken, state-is, moment, follows-at, parts, sound, ends-in, keeps, fed-by, minimum-is, margin-is, output-silent, coded-overflowed, coded-undated, coded-clean}
 use Rattle.promises.specs.ByTicks.{DeadlineRuns, ticksFrom, ticks-are-run}
+use Rattle.promises.specs.Outcomes.{Says, Cleanly, OverflowedAt, UndatedAt, cleanly-is, overflowed-is, undated-is, says-tick}
 use Rattle.promises.specs.Demand1.{tick-stays, deadline-run-empty}
 
 -- 01's "a chain it doesn't refuse is accepted": its fields in their ranges, no consume above its threshold, every rate within the limit, and no overload
@@ -312,6 +315,12 @@ pub deadline-run-when : (c : Chain) (T : ℕ) → DeadlineRuns c T ↔ ((Accepts
 unfolding deadlineRunAnswer outcomeOf
 deadline-run-when c T = Iff·trans (deadline-run-accepts c T) (Iff·and (may-run-is c) Iff·rfl)
 
+-- an outcome of number N at the instant t, of a queue or a node: "the first instant when", in a run of T ticks
+pub record EndsAt (c : Chain) (T N t at : ℕ) : Type 0 where
+  pub before : t < T
+  pub cleanly : Cleanly (deadlineRunAnswer c t .outcome)
+  pub says : Says (tickAnswer c (deadlineRunAnswer c t .run) .outcome) N (t ∷ at ∷ [])
+
 module _ (c : Chain) (T : ℕ) (ran : DeadlineRuns c T) where
   -- "a run of T ticks from a fresh start": it answers what T ticks end with, as far as they are clean, and nothing else
   pub deadline-run-is : (x : Ticked) → (deadlineRunAnswer c T ≡ ranAs x) ↔ TicksTo c T (freshRun c) x
@@ -322,11 +331,36 @@ module _ (c : Chain) (T : ℕ) (ran : DeadlineRuns c T) where
   by-ticks = ticks-are-run c T ran
 
   -- 13's "first instant when", and an overflow's: it ends at t so exactly when the run of t ticks is clean and the tick from the state that it leaves says so
-  pub run-ends : (o : Outcome) → o ≢ Clean → (deadlineRunAnswer c T .outcome ≡ o) ↔ Ends c T o
-  run-ends = ticks.run-ends c T ran
+  pub run-ends : (N t at : ℕ) → Says (deadlineRunAnswer c T .outcome) N (t ∷ at ∷ []) ↔ EndsAt c T N t at
+  run-ends N t at = (out, back)
+    where
+      out : Says (deadlineRunAnswer c T .outcome) N (t ∷ at ∷ []) → EndsAt c T N t at
+      out h =
+          let two = says-tick (deadlineRunAnswer c T .outcome) N t at h in
+          let k : Ends c T (deadlineRunAnswer c T .outcome) = ticks.run-ends c T ran (deadlineRunAnswer c T .outcome) (two .1) .0 refl in
+          record {
+            before = subst (λ (u : ℕ). u < T) (two .0) (k .before);
+            cleanly = cleanly-is (deadlineRunAnswer c t .outcome) .1 (subst (λ (u : ℕ). deadlineRunAnswer c u .outcome ≡ Clean) (two .0) (k .cleanly));
+            says = subst (λ (o : Outcome). Says o N (t ∷ at ∷ [])) (sym (subst (λ (u : ℕ). tickAnswer c (deadlineRunAnswer c u .run) .outcome ≡ deadlineRunAnswer c T .outcome) (two .0) (k .says))) h;
+          }
+
+      back : EndsAt c T N t at → Says (deadlineRunAnswer c T .outcome) N (t ∷ at ∷ [])
+      back k =
+          let o : Outcome = tickAnswer c (deadlineRunAnswer c t .run) .outcome in
+          let two = says-tick o N t at (k .says) in
+          let clean : deadlineRunAnswer c t .outcome ≡ Clean = cleanly-is (deadlineRunAnswer c t .outcome) .0 (k .cleanly) in
+          let so : Ends c T o = record {
+            before = subst (λ (u : ℕ). u < T) (sym (two .0)) (k .before);
+            cleanly = subst (λ (u : ℕ). deadlineRunAnswer c u .outcome ≡ Clean) (sym (two .0)) clean;
+            says = ap (λ (u : ℕ). tickAnswer c (deadlineRunAnswer c u .run) .outcome) (two .0);
+          } in
+          subst (λ (p : Outcome). Says p N (t ∷ at ∷ [])) (sym (ticks.run-ends c T ran o (two .1) .1 so)) (k .says)
 
   -- "it ends clean"
-  module _ (z : deadlineRunAnswer c T .outcome ≡ Clean) where
+  module _ (ends : Cleanly (deadlineRunAnswer c T .outcome)) where
+    z : deadlineRunAnswer c T .outcome ≡ Clean
+    z = cleanly-is (deadlineRunAnswer c T .outcome) .0 ends
+
     -- "a run of T ticks"
     pub run-clock : deadlineRunAnswer c T .run .clock ≡ T
     run-clock = ticks.run-clock c T ran z
@@ -401,27 +435,27 @@ module _ (c : Chain) (s : Run) where
     tick-is = answer-exactly c s (whole slots) ok
 
     -- "overflowed at (tick, queue)": exactly when y divides the clock and queue 0 has no room, at the clock and at queue 0
-    pub tick-overflows : (t q : ℕ) → (tickAnswer c s .outcome ≡ Overflowed t q) ↔ (((t ≡ s .clock) × (q ≡ 0)) × ((c .period ∣ s .clock) × (line c 0 .capacity < heldAt s 0 + pOf c 0)))
+    pub tick-overflows : (t q : ℕ) → OverflowedAt (tickAnswer c s .outcome) t q ↔ (((t ≡ s .clock) × (q ≡ 0)) × ((c .period ∣ s .clock) × (line c 0 .capacity < heldAt s 0 + pOf c 0)))
     tick-overflows t q =
         let a : Accepted c = accepts-is c .0 (tick-when .0 ok .0 .0) in
-        rw (capacity-is c a 0 (a .chain .count .0)) (one-overflows one t q)
+        Iff·trans (overflowed-is (tickAnswer c s .outcome) t q) (rw (capacity-is c a 0 (a .chain .count .0)) (one-overflows one t q))
 
     -- "13 .. when, after the source's step, an over-threshold node's deadline can't be had, place the lowest such over-threshold node"
-    pub tick-lacks : (t i : ℕ) → (tickAnswer c s .outcome ≡ NoDeadline t i) ↔ ((t ≡ s .clock) × Lacks c s i)
-    tick-lacks = one-lacks one
+    pub tick-lacks : (t i : ℕ) → UndatedAt (tickAnswer c s .outcome) t i ↔ ((t ≡ s .clock) × Lacks c s i)
+    tick-lacks t i = Iff·trans (undated-is (tickAnswer c s .outcome) t i) (one-lacks one t i)
 
     -- "it ends clean": exactly otherwise
-    pub tick-cleans : (tickAnswer c s .outcome ≡ Clean) ↔ ((Spills c s → ⊥) × ((i : ℕ) → Lacks c s i → ⊥))
-    tick-cleans = one-cleans one
+    pub tick-cleans : Cleanly (tickAnswer c s .outcome) ↔ ((Spills c s → ⊥) × ((i : ℕ) → Lacks c s i → ⊥))
+    tick-cleans = Iff·trans (cleanly-is (tickAnswer c s .outcome)) (one-cleans one)
 
     -- "the state being that before the production", and of 13 "that before the source's step": a tick that overflows or has no deadline leaves the state as it was
-    pub tick-ends : tickAnswer c s .outcome ≢ Clean → tickAnswer c s .run ≡ s
-    tick-ends = one-stays one
+    pub tick-ends : (Cleanly (tickAnswer c s .outcome) → ⊥) → tickAnswer c s .run ≡ s
+    tick-ends n = one-stays one (λ e. n (cleanly-is (tickAnswer c s .outcome) .1 e))
 
-    module _ (z : tickAnswer c s .outcome ≡ Clean) where
+    module _ (z : Cleanly (tickAnswer c s .outcome)) where
       -- a clean one leaves what the source's step, one tick of work and its effect make of the state, field by field
       pub tick-leaves : TickOnce c s (tickAnswer c s .run)
-      tick-leaves = one-leaves one z
+      tick-leaves = one-leaves one (cleanly-is (tickAnswer c s .outcome) .0 z)
 
       -- "the clock going to t+1"
       pub tick-clock : tickAnswer c s .run .clock ≡ s .clock + 1
@@ -438,17 +472,17 @@ module _ (c : Chain) (s : Run) where
 -- exactly when a deadline can't be had; 0, 0, 0 exactly when it is clean or refused
 pub record Told (a : TickAnswer) (number place kind tick at : ℕ) : Type 0 where
   pub numbered : (number ≡ a .number) × (place ≡ a .place)
-  pub overflowed : (t q : ℕ) → ((kind ≡ 1) × ((tick ≡ t) × (at ≡ q))) ↔ (a .outcome ≡ Overflowed t q)
-  pub undated : (t i : ℕ) → ((kind ≡ 2) × ((tick ≡ t) × (at ≡ i))) ↔ (a .outcome ≡ NoDeadline t i)
-  pub cleanly : ((kind ≡ 0) × ((tick ≡ 0) × (at ≡ 0))) ↔ ((a .number ≢ 0) ⊎ (a .outcome ≡ Clean))
+  pub overflowed : (t q : ℕ) → ((kind ≡ 1) × ((tick ≡ t) × (at ≡ q))) ↔ OverflowedAt (a .outcome) t q
+  pub undated : (t i : ℕ) → ((kind ≡ 2) × ((tick ≡ t) × (at ≡ i))) ↔ UndatedAt (a .outcome) t i
+  pub cleanly : ((kind ≡ 0) × ((tick ≡ 0) × (at ≡ 0))) ↔ ((a .number ≢ 0) ⊎ Cleanly (a .outcome))
 
 -- which its code, tick and place tell
-told : (a : TickAnswer) → (a .number ≢ 0 → a .outcome ≡ Clean) → Told a (a .number) (a .place) (kindOf (a .outcome)) (tickOf (a .outcome)) (atOf (a .outcome))
+told : (a : TickAnswer) → (a .number ≢ 0 → Cleanly (a .outcome)) → Told a (a .number) (a .place) (kindOf (a .outcome)) (tickOf (a .outcome)) (atOf (a .outcome))
 told a refusal = record {
   numbered = (refl, refl);
-  overflowed = λ t q. (code-overflowed (a .outcome) t q, λ e. rw e (refl, (refl, refl)));
-  undated = λ t i. (code-undated (a .outcome) t i, λ e. rw e (refl, (refl, refl)));
-  cleanly = (λ h. inr (code-clean (a .outcome) (h .0)), ⊎-elim (λ n. rw (refusal n) (refl, (refl, refl))) (λ e. rw e (refl, (refl, refl))));
+  overflowed = coded-overflowed (a .outcome);
+  undated = coded-undated (a .outcome);
+  cleanly = (λ h. inr (coded-clean (a .outcome) .0 h), ⊎-elim (λ n. coded-clean (a .outcome) .1 (refusal n)) (coded-clean (a .outcome) .1));
 }
 
 -- of a tick

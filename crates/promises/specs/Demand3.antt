@@ -9,23 +9,24 @@
 --   schedule c k             the firings of the immediate run of k source firings, in order: manual firing accepts them, they are by the rule, and they
 --                            lead to its state (Demand2: immediate-fires, -rule, -state)
 --   counted, balance         "each queue holds what its producer's firings put in less what its consumer's took out"
---   nearest-at-once, peak, run-peak
---                            "no queue passes that minimum"
+--   nearest-at-once, peak, never-full, run-peak
+--                            "no queue passes that minimum", and none that has the room for it is too small
 --   rate, rates, rate-exact  "a node that has fired keeps exactly its x firings per y ticks": one cycle, m of them, and that y is whole periods of the source
 --   naming                   "unless that queue has held at least the minimum"
 use mathlib.Core.Path.{_≡_, _∙_}
 use mathlib.Core.List.{List}
 use Prim.Native.Nat.{ℕ, suc, _+_, _*_, _/_, _≤_, _<_, _∣_}
 use native.Mathlib.Nat.{le-refl, one-mul}
-use Rattle.ardenquill.specs.Chains.{rowOf}
-use Rattle.ardenquill.specs.Analyses.{y-source, start, Accepted}
-use Rattle.ardenquill.specs.Runs.{countAt, heldAt, freshRun}
+use native.Mathlib.Omega.{arith}
+use Rattle.ardenquill.specs.Chains.{refused, rowOf}
+use Rattle.ardenquill.specs.Analyses.{y-source, start, minimumOf, capacityOf, enough-capacity, Accepted}
+use Rattle.ardenquill.specs.Runs.{countAt, heldAt, freshRun, answered, fireRefusal, fireAnswer, fire-12}
 use Rattle.ardenquill.specs.Histories as histories
 use Rattle.ardenquill.specs.Histories.{times, after, at-some, HasHeld}
 use Rattle.ardenquill.specs.Immediate as immediate
-use Rattle.ardenquill.specs.Immediate.{F, schedule, immediateAnswer}
-use Rattle.ardenquill.specs.Records.{Chain}
-use Rattle.promises.specs.Replay.{pOf, cOf, Accepts, line, replayAnswer, Fires, Always, Sometime, AtOnce, NearestFirst, Runs, accepts-is}
+use Rattle.ardenquill.specs.Immediate.{Reached, reached-after, below-minimum, F, schedule, immediateAnswer}
+use Rattle.ardenquill.specs.Records.{Chain, Run}
+use Rattle.promises.specs.Replay.{pOf, cOf, Accepts, line, replayAnswer, Fires, Always, Sometime, Ample, LowAt, AtOnce, NearestFirst, Runs, accepts-is}
 use Rattle.promises.specs.Laws.{x-is, y-is, minimum-is, by-is, accepted, permits, state-is, moment, prompts, parts}
 use Rattle.promises.specs.Demand2.{immediate-fires, immediate-rule, immediate-counts}
 
@@ -48,6 +49,20 @@ module _ (c : Chain) (h : List ℕ) (ok : Fires c h) where
   peak low j l g k e =
       let m : HasHeld c h j (heldAt (after c (freshRun c) g) j) = record { before = g; later = k; parts = e; holds = le-refl _ } in
       rw (moment c h ok g k e, minimum-is c (accepted c h ok) j l) (histories.peak c (accepted c h ok) h (permits c h ok) (prompts c h ok low) j l _ m)
+
+  -- with B = 0 the capacity is that minimum, and 12 alone would keep a queue within it: what the sentence then says is that no firing at once is stopped by a full queue.
+  -- Where its capacity is not below the reported minimum, manual firing does not refuse N_i with 12 while the node that it feeds is below threshold
+  pub never-full : (i : ℕ) → Ample c i → LowAt c (replayAnswer c h .run) i → fireAnswer c (replayAnswer c h .run) i .number ≡ 12 → ⊥
+  unfolding fireAnswer answered
+  never-full i big low e =
+      let a : Accepted c = accepted c h ok in
+      let s : Run = replayAnswer c h .run in
+      let r : Reached c s = rw (state-is c h ok) (reached-after (a .chain) h (permits c h ok)) in
+      let L : ℕ = fireRefusal c s i .place in
+      let says : fireRefusal c s i ≡ refused 12 L = λ t. record { number = e t; place = L } in
+      let f = fire-12 c s i L .0 says .1 .0 in
+      let cap : minimumOf (rowOf c i) ≤ capacityOf (rowOf c i) = enough-capacity c i (rw (minimum-is c a i (f .0)) at big) in
+      omega (arith, below-minimum (a .chain) r i (f .0) (low (f .0)), cap, f .1)
 
   -- "In no permitted order can a producer fire as often as 01 names for its queue unless that queue has held at least the minimum"
   pub naming : (j : ℕ) → j < c .n → line c j .by ≤ times j h → Sometime c h (λ s. line c j .minimum ≤ heldAt s j)

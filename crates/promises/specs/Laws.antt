@@ -15,7 +15,7 @@
 --                            of a permitted order: its chain, its firings, its state, the state at each moment, and that it is prompt
 --   quiet, parts, sound, ends-in, keeps
 --                            of an immediate run: its checks, what they leave to be known, and its state
---   code-overflowed, -undated, -clean
+--   coded-overflowed, -undated, -clean
 --                            an outcome by what C is told of it
 --   output-silent            a call that writes is not refused exactly when its checks are silent
 --   write-alike              chains that differ in slots past n only are written alike
@@ -26,7 +26,7 @@ use mathlib.Core.List.{List, [], _∷_, _++_}
 use Prim.Native.Nat.{ℕ, zero, suc, _+_, _*_, _≤_, _<_, _∣_}
 use native.Mathlib.Nat.{zero-add, zero-mod, mod-eq-zero-of-dvd, dvd-of-mod-eq-zero}
 use native.Mathlib.Omega.{arith}
-use lib.ListN.{getD}
+use lib.ListN.{length, getD}
 use borrow.Author.Tests.{lt-leb}
 use Rattle.ardenquill.specs.Chains.{row, rowOf, first, Silent, Silents, first-silent, Sound}
 use Rattle.ardenquill.specs.Files.{bytesOf, packedLength, header, rows, nodes, packed, roomCheck, writeRefusal, Output}
@@ -39,6 +39,7 @@ use Rattle.ardenquill.specs.Immediate.{F, fires, Reached, schedule, Next, Follo
 use Rattle.ardenquill.specs.Deadlines.{earlier, index}
 use Rattle.ardenquill.specs.Ticks.{kindOf, tickOf, atOf}
 use Rattle.ardenquill.specs.Records.{Refusal, Queue, Chain, LengthAnswer, QueueSize, Analysis, AnalysisAnswer, Run, Outcome, Clean, Overflowed, NoDeadline}
+use Rattle.promises.specs.Outcomes.{Cleanly, OverflowedAt, UndatedAt}
 use Rattle.promises.specs.Replay.{pOf, τOf, cOf, Accepts, AllSlots, Passes, Ample, line, rateX, rateY, replayAnswer, Fires, LowAt, AtOnce, Runs, accepts-is, fires-is, fires-state, fires-before}
 
 -- the line of a queue of an accepted chain
@@ -202,20 +203,20 @@ module _ (c : Chain) (k : ℕ) (ran : Runs c k) where
   keeps = rw ends-in (immediate.reached sound k)
 
 -- an outcome by what C is told of it: its code, its tick, and its queue or node
-pub code-overflowed : (o : Outcome) (t q : ℕ) → (kindOf o ≡ 1) × ((tickOf o ≡ t) × (atOf o ≡ q)) → o ≡ Overflowed t q
-code-overflowed Clean t q h = absurd (omega (arith, h .0))
-code-overflowed (Overflowed a b) t q h = λ i. Overflowed (h .1 .0 i) (h .1 .1 i)
-code-overflowed (NoDeadline a b) t q h = absurd (omega (arith, h .0))
+pub coded-overflowed : (o : Outcome) (t q : ℕ) → ((kindOf o ≡ 1) × ((tickOf o ≡ t) × (atOf o ≡ q))) ↔ OverflowedAt o t q
+coded-overflowed Clean t q = (λ h. absurd (omega (arith, h .0)), λ h. absurd (let n : _≡_ {A = ℕ} 0 2 = ap length (h .1) in omega arith))
+coded-overflowed (Overflowed u r) t q = (λ h. (refl, λ k. h .1 .0 k ∷ h .1 .1 k ∷ []), λ h. (refl, (ap (λ (vs : List ℕ). getD vs 0 0) (h .1), ap (λ (vs : List ℕ). getD vs 1 0) (h .1))))
+coded-overflowed (NoDeadline u i) t q = (λ h. absurd (omega (arith, h .0)), λ h. absurd (omega (arith, h .0)))
 
-pub code-undated : (o : Outcome) (t m : ℕ) → (kindOf o ≡ 2) × ((tickOf o ≡ t) × (atOf o ≡ m)) → o ≡ NoDeadline t m
-code-undated Clean t m h = absurd (omega (arith, h .0))
-code-undated (Overflowed a b) t m h = absurd (omega (arith, h .0))
-code-undated (NoDeadline a b) t m h = λ i. NoDeadline (h .1 .0 i) (h .1 .1 i)
+pub coded-undated : (o : Outcome) (t m : ℕ) → ((kindOf o ≡ 2) × ((tickOf o ≡ t) × (atOf o ≡ m))) ↔ UndatedAt o t m
+coded-undated Clean t m = (λ h. absurd (omega (arith, h .0)), λ h. absurd (omega (arith, h .0)))
+coded-undated (Overflowed u r) t m = (λ h. absurd (omega (arith, h .0)), λ h. absurd (omega (arith, h .0)))
+coded-undated (NoDeadline u i) t m = (λ h. (refl, λ k. h .1 .0 k ∷ h .1 .1 k ∷ []), λ h. (refl, (ap (λ (vs : List ℕ). getD vs 0 0) (h .1), ap (λ (vs : List ℕ). getD vs 1 0) (h .1))))
 
-pub code-clean : (o : Outcome) → kindOf o ≡ 0 → o ≡ Clean
-code-clean Clean e = refl
-code-clean (Overflowed t q) e = absurd (omega (arith, e))
-code-clean (NoDeadline t i) e = absurd (omega (arith, e))
+pub coded-clean : (o : Outcome) → ((kindOf o ≡ 0) × ((tickOf o ≡ 0) × (atOf o ≡ 0))) ↔ Cleanly o
+coded-clean Clean = (λ h. (refl, refl), λ h. (refl, (refl, refl)))
+coded-clean (Overflowed t q) = (λ h. absurd (omega (arith, h .0)), λ h. absurd (let n : _≡_ {A = ℕ} 2 0 = ap length (h .1) in omega arith))
+coded-clean (NoDeadline t i) = (λ h. absurd (omega (arith, h .0)), λ h. absurd (omega (arith, h .0)))
 
 -- a call that writes answers 0 exactly when its checks are silent
 pub output-silent : {r : Refusal} {t o p : List ℕ} {a : LengthAnswer} → Output r t o p a → (a .number ≡ 0) ↔ Silent r

@@ -1,5 +1,7 @@
 pub mod Replay
 pub mod Order
+pub mod Outcomes
+pub mod Zeros
 pub mod Laws
 pub mod ByTicks
 pub mod Demand1

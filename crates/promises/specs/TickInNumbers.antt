@@ -24,6 +24,7 @@ use Rattle.ardenquill.specs.Runs.{countAt, heldAt, Over, StateSound}
 use Rattle.ardenquill.specs.Deadlines.{askCheck, ask-silent, indexCheck, index, index-silent, index-only, index-exact, deadline, answeredDue, deadlineAnswer, deadline-13}
 use Rattle.ardenquill.specs.Ticks.{outcomeOf, tickAnswer, Ticking, ticking-is, tick-ran, tick-step, SourceOnce, TickOnce, Lacks, workedBy, source-work, other-work, own-work}
 use Rattle.ardenquill.specs.Records.{Refusal, Chain, DeadlineAnswer, Run, Outcome, Clean, Overflowed, NoDeadline, TickAnswer}
+use Rattle.promises.specs.Outcomes.{Cleanly, UndatedAt, cleanly-is, overflowed-is, undated-is}
 use Rattle.promises.specs.Replay.{pOf, τOf, Accepts, line, AllSlots, Passes, Ample, accepts-is}
 use Rattle.promises.specs.Laws.{capacity-is, run-quiet, silents-append, whole, passes-is}
 use Rattle.promises.specs.Demand2.{tick-when, tick-overflows, tick-lacks, tick-leaves, deadline-when, deadline-is}
@@ -136,32 +137,32 @@ module _ (c : Chain) (s : Run) (slots : AllSlots s) (ok : tickAnswer c s .number
       apart m k n = by-cases (decLt m k) (λ l. inl l) (λ l. inr (omega (arith, n, l)))
 
   -- "13 .. when, after the source's step, an over-threshold node's deadline can't be had, place the lowest such over-threshold node", where the source does not overflow
-  pub tick-13 : (t i : ℕ) → (tickAnswer c s .outcome ≡ NoDeadline t i) ↔ (((t ≡ s .clock) × ((c .period ∣ s .clock) → heldAt s 0 + pOf c 0 ≤ line c 0 .capacity)) × LacksAsked c s i)
+  pub tick-13 : (t i : ℕ) → UndatedAt (tickAnswer c s .outcome) t i ↔ (((t ≡ s .clock) × ((c .period ∣ s .clock) → heldAt s 0 + pOf c 0 ≤ line c 0 .capacity)) × LacksAsked c s i)
   tick-13 t i = (out, λ h. back h (tickAnswer c s .outcome) refl)
     where
       a : Accepted c
       a = accepts-is c .0 (may .0)
 
-      out : tickAnswer c s .outcome ≡ NoDeadline t i → ((t ≡ s .clock) × ((c .period ∣ s .clock) → heldAt s 0 + pOf c 0 ≤ line c 0 .capacity)) × LacksAsked c s i
+      out : UndatedAt (tickAnswer c s .outcome) t i → ((t ≡ s .clock) × ((c .period ∣ s .clock) → heldAt s 0 + pOf c 0 ≤ line c 0 .capacity)) × LacksAsked c s i
       out e =
           let k = tick-lacks c s slots ok t i .0 e in
           ((k .0, λ d. rw (capacity-is c a 0 (a .chain .count .0)) (k .1 .fits d)), lacks-asked i (k .1))
 
-      back : (((t ≡ s .clock) × ((c .period ∣ s .clock) → heldAt s 0 + pOf c 0 ≤ line c 0 .capacity)) × LacksAsked c s i) → (o : Outcome) → tickAnswer c s .outcome ≡ o → tickAnswer c s .outcome ≡ NoDeadline t i
+      back : (((t ≡ s .clock) × ((c .period ∣ s .clock) → heldAt s 0 + pOf c 0 ≤ line c 0 .capacity)) × LacksAsked c s i) → (o : Outcome) → tickAnswer c s .outcome ≡ o → UndatedAt (tickAnswer c s .outcome) t i
       back h Clean e =
-          let k = tick-leaves c s slots ok e in
+          let k = tick-leaves c s slots ok (cleanly-is (tickAnswer c s .outcome) .1 e) in
           let q : ℕ = h .1 .queue in
           absurd (omega (arith, h .1 .asked, asked-had (k .source) q (h .1 .node) (k .dated q (h .1 .node) (over-in (k .source) q (h .1 .over)))))
-      back h (Overflowed m q) e = let k = tick-overflows c s slots ok m q .0 e in absurd (omega (arith, k .1 .1, h .0 .1 (k .1 .0)))
+      back h (Overflowed m q) e = let k = tick-overflows c s slots ok m q .0 (overflowed-is (tickAnswer c s .outcome) m q .1 e) in absurd (omega (arith, k .1 .1, h .0 .1 (k .1 .0)))
       back h (NoDeadline m j) e =
           let k = out′ m j e in
-          e ∙ (λ z. NoDeadline ((k .0 ∙ sym (h .0 .0)) z) (asked-once j i (k .1) (h .1) z))
+          undated-is (tickAnswer c s .outcome) t i .1 (e ∙ (λ z. NoDeadline ((k .0 ∙ sym (h .0 .0)) z) (asked-once j i (k .1) (h .1) z)))
         where
           out′ : (m j : ℕ) → tickAnswer c s .outcome ≡ NoDeadline m j → (m ≡ s .clock) × LacksAsked c s j
-          out′ m j e = let k = tick-lacks c s slots ok m j .0 e in (k .0, lacks-asked j (k .1))
+          out′ m j e = let k = tick-lacks c s slots ok m j .0 (undated-is (tickAnswer c s .outcome) m j .1 e) in (k .0, lacks-asked j (k .1))
 
   -- "the over-threshold node whose next firing has the earliest deadline, ties to the one nearest the sink, works one tick"; where there is none nobody works
-  pub tick-works : tickAnswer c s .outcome ≡ Clean
+  pub tick-works : Cleanly (tickAnswer c s .outcome)
       → Worked c s (tickAnswer c s .run) ⊎ (((j : ℕ) → j < c .n → OverThen c s j → ⊥) × ((j : ℕ) → workedBy c (tickAnswer c s .run) j ≡ workedBy c s j))
   tick-works z = at (k .worker) refl
     where
@@ -190,10 +191,10 @@ module _ (c : Chain) (s : Run) (slots : AllSlots s) (ok : tickAnswer c s .number
           })
 
   -- so each queue of what it leaves balances, and no work is at e
-  pub tick-passes : tickAnswer c s .outcome ≡ Clean → (j : ℕ) → j < c .n → Passes c (tickAnswer c s .run) j
+  pub tick-passes : Cleanly (tickAnswer c s .outcome) → (j : ℕ) → j < c .n → Passes c (tickAnswer c s .run) j
   unfolding tickAnswer outcomeOf
   tick-passes z =
       let k : Ticking c s = ticking-is c s .0 ok in
       let ran = tick-ran c s ok in
-      let step = tick-step (record { chain = k .chain; whole = whole slots; state = k .state }) (ap (λ (a : TickAnswer). a .outcome) (sym ran) ∙ z) in
+      let step = tick-step (record { chain = k .chain; whole = whole slots; state = k .state }) (ap (λ (a : TickAnswer). a .outcome) (sym ran) ∙ cleanly-is (tickAnswer c s .outcome) .0 z) in
       passes-is c (tickAnswer c s .run) (may .0) .0 (subst (λ (a : TickAnswer). StateSound c (a .run)) (sym ran) (step .running .state))
