@@ -1,5 +1,5 @@
 -- What the public calls promise of run states and of one manual firing, handed on from the crates `state` and `past`.
-pub use Rattle.state.specs.State.{countAt, heldAt, doneAt, emptyRun, fresh-empty, fresh-count, fresh-held, refusedWith}
+pub use Rattle.state.specs.State.{countAt, heldAt, doneAt, emptyRun, fresh-empty, zeros, fresh-count, fresh-held, refusedWith}
 unfoldable pub use Rattle.state.specs.State.{freshRun, answered}
 unfoldable pub use Rattle.state.specs.Fired.{fired}
 pub use Rattle.state.specs.Fired.{Over, over-enough, Room, May, Balance, Slots, count-fired, count-other, held-output, held-input, held-other, held-sink, balance-kept}

@@ -10,11 +10,12 @@
 --                            the listed numbers of each call, in the order in which it tests them. When each is given exactly: read-1 to read-5, write-2 to
 --                            write-10, report-1 to report-10, factory-exact, analyse-2 to analyse-7, run-8, fire-17, fire-9, fire-11, fire-12,
 --                            immediate-9, deadline-11, deadline-13, tick-17, tick-9, deadline-run-9, and -earlier for what a call shares with the analysis
---   zeroChain, zeroAnalysis, zeroRun, ZeroPast, ChainSlots
+--   zeroChain, zeroAnalysis, zeroRun, ZeroPast, ChainSlots, RunSlots
 --                            every result zero, written out; the slots past n zero (Zeros)
 --   read-, factory-, analyse-, checked-, fresh-, immediate-, deadline-, deadline-run-empty
 --                            what a refused call makes itself is zero
---   read-, factory-, analysis-, fresh-slots
+--   Started c s              what a fresh start is, field by field
+--   read-, factory-, analysis-, fresh-, immediate-, deadline-run-slots
 --                            and so are the slots past n of what a call makes that is not refused
 --   writes-nothing           a refused call leaves every lent byte
 --   fire-stays, tick-stays, lent-stays
@@ -23,13 +24,13 @@
 --                            chains, and states, that differ in slots past n only (Runs)
 --   chain-past, write-past, fire-past, tick-past, fire-kept, tick-kept
 --                            slots past n are neither read nor changed
-use mathlib.Core.Path.{_≡_, refl, ap, subst, _∙_}
+use mathlib.Core.Path.{_≡_, refl, sym, ap, subst, _∙_}
 use mathlib.Core.Logic.{_≢_}
 use mathlib.Core.List.{List, [], _∷_}
-use Prim.Native.Nat.{ℕ, _<_}
+use Prim.Native.Nat.{ℕ, suc, _<_}
 use native.Mathlib.Omega.{arith}
 use lib.Dec.{ltb, leb}
-use lib.ListN.{length, replicate}
+use lib.ListN.{length, replicate, length-replicate}
 use borrow.Author.Tests.{eq-eqb, ne-eqb}
 use Rattle.ardenquill.specs.Records.{Refusal, Chain, LengthAnswer, Run}
 use Rattle.ardenquill.specs.Chains as chains
@@ -38,18 +39,18 @@ use Rattle.ardenquill.specs.Files.{readChecks, read-numbered, readRefusal, read
 use Rattle.ardenquill.specs.Analyses.{start, sized, sizeOf, analysisOf, analyseChecks, analyse-numbered, analyseRefusal, analyseAnswer, analyse-accepts, runChecks, run-numbered, runRefusal, runAnswer}
 use Rattle.ardenquill.specs.Reports.{refusalText, reportText, reportChecks, report-numbered, reportRefusal}
 use Rattle.ardenquill.specs.Runs as runs
-use Rattle.ardenquill.specs.Runs.{heldAt, freshRun, freshAnswer, fresh-held, fresh-state, fireChecks, fire-numbered, fireRefusal, fireAnswer, fresh-refused, fire-refused, AlikeChains, AlikeRuns, KeptPast, analysis-alike, run-analysis-alike, fresh-alike, fire-alike}
+use Rattle.ardenquill.specs.Runs.{heldAt, zeros, freshRun, freshAnswer, fresh-held, fresh-state, fireChecks, fire-numbered, fireRefusal, fireAnswer, fresh-refused, fire-refused, AlikeChains, AlikeRuns, KeptPast, analysis-alike, run-analysis-alike, fresh-alike, fire-alike}
 use Rattle.ardenquill.specs.Immediate.{immediateChecks, immediate-numbered, immediateRefusal, immediateAnswer, immediate-refused, immediate-alike}
 use Rattle.ardenquill.specs.Deadlines.{answeredDue, deadlineChecks, deadline-numbered, deadlineRefusal, deadlineAnswer, deadline-refused}
 use Rattle.ardenquill.specs.Flat.{coded}
 use Rattle.ardenquill.specs.declared.OutcomeAnswer.{OutcomeAnswer}
 use Rattle.ardenquill.specs.Ticks as ticks
-use Rattle.ardenquill.specs.Ticks.{outcomeOf, tickChecks, tick-numbered, tickRefusal, tickAnswer, deadlineRunChecks, deadline-run-numbered, deadlineRunRefusal, deadlineRunAnswer, KeptSlots, AlikeAnswers, question-alike, deadline-run-alike}
+use Rattle.ardenquill.specs.Ticks.{outcomeOf, tickChecks, tick-numbered, tickRefusal, tickAnswer, deadlineRunChecks, deadline-run-numbered, deadlineRunRefusal, deadlineRunAnswer, KeptSlots, AlikeAnswers, question-alike, deadline-run-alike, deadline-run-kept}
 use Rattle.promises.specs.Order.{InOrder, in-order}
 use Rattle.promises.specs.Outcomes.{Cleanly, cleanly-is}
-use Rattle.promises.specs.Zeros.{zeroRow, zeroLine, zeroChain, zeroAnalysis, zeroRun, ZeroPast, slots-zero, ChainSlots}
+use Rattle.promises.specs.Zeros.{zeroRow, zeroLine, zeroChain, zeroAnalysis, zeroRun, ZeroPast, slots-zero, ChainSlots, RunSlots}
 use Rattle.promises.specs.Replay.{AllSlots}
-use Rattle.promises.specs.Laws.{whole, write-alike}
+use Rattle.promises.specs.Laws.{whole, keeps, write-alike}
 
 -- "Bad input gets one of the listed refusal numbers with its place, in the listed order": a file that is read
 pub read-numbers : (f : List ℕ) → InOrder (1 ∷ 2 ∷ 3 ∷ 4 ∷ 5 ∷ []) (readChecks f) (readAnswer f .number) (readAnswer f .place)
@@ -152,6 +153,10 @@ module _ (c : Chain) where
   unfolding deadlineRunAnswer outcomeOf
   deadline-run-empty T n = (cleanly-is (deadlineRunAnswer c T .outcome) .1 (simp (ne-eqb _ _ n)), simp (ne-eqb _ _ n))
 
+-- every slot of a list of zeros is zero
+zero-slots : (N n : ℕ) → ZeroPast {A = ℕ} N n 0 (replicate N 0)
+zero-slots N n = record { long = length-replicate {A = ℕ} N 0; past = λ i l m. zeros N i }
+
 -- a chain that is its own first n slots has nothing in the others
 past-chain : (c : Chain) → trimmed c ≡ c → ChainSlots c
 unfolding trimmed
@@ -166,17 +171,17 @@ pub factory-slots : (k : ℕ) → ChainSlots (factoryAnswer k .chain)
 factory-slots k = past-chain (factoryAnswer k .chain) (trimmed-factory k)
 
 -- of an analysis, which has the chain's n
-pub analysis-slots : (c : Chain) → analyseAnswer c .number ≡ 0 → (analyseAnswer c .analysis .n ≡ c .n) × ZeroPast (c .n) zeroLine (analyseAnswer c .analysis .queues)
+pub analysis-slots : (c : Chain) → analyseAnswer c .number ≡ 0 → (analyseAnswer c .analysis .n ≡ c .n) × ZeroPast 16 (c .n) zeroLine (analyseAnswer c .analysis .queues)
 unfolding analyseAnswer sized analysisOf
 analysis-slots c z = simp (eq-eqb _ _ z) (refl, slots-zero (sizeOf c) zeroLine (c .n))
 
--- and of a fresh start, in which nothing has fired, no work is done, and each queue holds what it starts with
+-- of a fresh start, in which nothing has fired, no work is done, and each queue holds what it starts with
 pub record Started (c : Chain) (s : Run) : Type 0 where
   pub clock : s .clock ≡ 0
   pub counts : s .counts ≡ replicate 17 0
   pub held : (j : ℕ) → j < c .n → heldAt s j ≡ start (rowOf c j)
-  pub slots : ZeroPast (c .n) 0 (s .held)
   pub done : s .done ≡ replicate 16 0
+  pub slots : RunSlots (c .n) s
 
 pub fresh-slots : (c : Chain) → freshAnswer c .number ≡ 0 → Started c (freshAnswer c .run)
 unfolding freshRun freshAnswer runs.answered
@@ -184,9 +189,30 @@ fresh-slots c z = rw (fresh-state c z) (record {
   clock = refl;
   counts = refl;
   held = fresh-held (analyse-accepts c .0 z .chain);
-  slots = slots-zero (λ i. start (rowOf c i)) 0 (c .n);
   done = refl;
+  slots = record { counts = zero-slots 17 (suc (c .n)); held = slots-zero (λ i. start (rowOf c i)) 0 (c .n); done = zero-slots 16 (c .n) };
 })
+
+-- of a state that has the slots past n of one of zeros
+past-zero : {n : ℕ} {s : Run} → KeptSlots n zeroRun s → RunSlots n s
+past-zero k = record {
+  counts = record { long = k .counts .long; past = λ i l m. k .counts .slots i l ∙ zeros 17 i };
+  held = record { long = k .held .long; past = λ i l m. k .held .slots i l ∙ zeros 16 i };
+  done = record { long = k .done .long; past = λ i l m. k .done .slots i l ∙ zeros 16 i };
+}
+
+-- and so of the state that a run leaves
+pub immediate-slots : (c : Chain) (k : ℕ) → immediateAnswer c k .number ≡ 0 → RunSlots (c .n) (immediateAnswer c k .run)
+immediate-slots c k ran =
+    let s = keeps c k ran in
+    record {
+      counts = record { long = s .wide; past = λ i l m. s .counts-past i l };
+      held = record { long = s .deep; past = λ i l m. s .held-past i l };
+      done = subst (ZeroPast 16 (c .n) 0) (sym (s .done)) (zero-slots 16 (c .n));
+    }
+
+pub deadline-run-slots : (c : Chain) (T : ℕ) → RunSlots (c .n) (deadlineRunAnswer c T .run)
+deadline-run-slots c T = past-zero (deadline-run-kept c T)
 
 -- "a refused call writes nothing in lent memory": of every call that writes, whatever its checks and its text
 pub writes-nothing : {r : Refusal} {t o p : List ℕ} {a : LengthAnswer} → Output r t o p a → a .number ≢ 0 → (p ≡ o) × (a .length ≡ 0)

@@ -2,13 +2,14 @@
 --   zeroRow, zeroChain       a queue's row, and a chain, of zeros
 --   zeroLine, zeroAnalysis   a queue's line, and an analysis
 --   zeroRun                  a run state
---   ZeroPast n z l           l has 16 slots, of which each from n on is z
+--   ZeroPast N n z l         l has N slots, of which each from n on is z
 --   slots-zero               slots of which the first n are filled are such a list
---   ChainSlots c             of a chain: no row and no execution time past n
+--   ChainSlots c, RunSlots n s
+--                            of a chain: no row and no execution time past n; of a state: no count, contents or work past n
 use mathlib.Core.Path.{_≡_}
 use mathlib.Core.Bool.{cond}
 use mathlib.Core.List.{List}
-use Prim.Native.Nat.{ℕ, _≤_, _<_}
+use Prim.Native.Nat.{ℕ, suc, _≤_, _<_}
 use lib.Dec.{ltb}
 use lib.IntN.{pos}
 use lib.ListN.{length, getD, replicate}
@@ -35,16 +36,22 @@ zeroAnalysis = record { n = 0; queues = replicate 16 zeroLine; busy = 0; cycle =
 abbrev pub zeroRun : Run
 zeroRun = record { clock = 0; counts = replicate 17 0; held = replicate 16 0; done = replicate 16 0 }
 
--- 16 slots, of which each from n on holds z
-pub record ZeroPast {A : Type 0} (n : ℕ) (z : A) (l : List A) : Type 0 where
-  pub long : length l ≡ 16
-  pub past : (i : ℕ) → n ≤ i → i < 16 → getD l i z ≡ z
+-- N slots, of which each from n on holds z
+pub record ZeroPast {A : Type 0} (N n : ℕ) (z : A) (l : List A) : Type 0 where
+  pub long : length l ≡ N
+  pub past : (i : ℕ) → n ≤ i → i < N → getD l i z ≡ z
 
 -- slots of which the first n are filled
-pub slots-zero : {A : Type 0} (f : ℕ → A) (z : A) (n : ℕ) → ZeroPast n z (slots f z 16 n)
+pub slots-zero : {A : Type 0} (f : ℕ → A) (z : A) (n : ℕ) → ZeroPast 16 n z (slots f z 16 n)
 slots-zero f z n = record { long = length-tab 16 (λ j. cond (ltb j n) (f j) z); past = λ i l m. slot-free f z 16 n i z m l }
 
 -- a chain whose slots past n are zero
 pub record ChainSlots (c : Chain) : Type 0 where
-  pub rows : ZeroPast (c .n) zeroRow (c .queues)
-  pub work : ZeroPast (c .n) 0 (c .work)
+  pub rows : ZeroPast 16 (c .n) zeroRow (c .queues)
+  pub work : ZeroPast 16 (c .n) 0 (c .work)
+
+-- a state of a chain of n queues whose slots past n are zero: 17 counts, of which the chain has one more than queues
+pub record RunSlots (n : ℕ) (s : Run) : Type 0 where
+  pub counts : ZeroPast 17 (suc n) 0 (s .counts)
+  pub held : ZeroPast 16 n 0 (s .held)
+  pub done : ZeroPast 16 n 0 (s .done)
