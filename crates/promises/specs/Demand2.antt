@@ -25,8 +25,8 @@
 --                            the immediate run is not refused; a permitted order; by the rule; only the source may fire; a capacity that is not below the
 --                            minimum (Replay)
 --   schedule c k, F c k i    the firings of the immediate run, in order; how often N_i fires in it (Immediate)
---   immediate-when, immediate-fires, -state, -rule, -source, -ends, -counts, -exact, -rest
---                            "both kinds of run", the immediate one: accepted when; its firings, and that they are by the rule; its exact counts
+--   immediate-when, immediate-fires, -state, -rule, -source, -ends, -counted, -counts, -exact, -rest
+--                            "both kinds of run", the immediate one: accepted when; its firings, and that they are by the rule; its counts, which are theirs, exactly
 --   DeadlineRuns c T, ticksFrom c T s
 --                            the deadline run is not refused; T ticks as their calls answer them (ByTicks)
 --   ranAs x                  the answer of a call that no check refused and that ends with x, an outcome with the state that is left (Ticks)
@@ -69,7 +69,7 @@ use Rattle.ardenquill.specs.Files.{countOf, queuesAt, nodesAt, readAnswer, pack
 use Rattle.ardenquill.specs.Analyses.{ceil, gcd, gcd-pos-left, residue, residue-000, residue-004, naming, common, nextX, nextY, xOf, yOf, y-multiple, busyIn, runChecks, analysisOf, analyseAnswer, Accepted, capacity-minimum, capacity-written, margin-unwritten, margin-balance}
 use Rattle.ardenquill.specs.Runs as runs
 use Rattle.ardenquill.specs.Runs.{countAt, heldAt, freshRun, fired, May, stateCheck, state-silent, Whole, Firing, firing-is, fireAnswer, fire-accepts, fire-accepted, count-fired, count-other, held-output, held-other}
-use Rattle.ardenquill.specs.Histories.{times}
+use Rattle.ardenquill.specs.Histories.{times, counted}
 use Rattle.ardenquill.specs.Immediate as immediate
 use Rattle.ardenquill.specs.Immediate.{F, fires, fires-below, fires-from, schedule, Follows, rule, immediateAnswer, immediate-accepts, permitted, counts-are-F}
 use Rattle.ardenquill.specs.Deadlines.{earlier, earlier-some, deadline, index, answeredDue, deadlineAnswer, deadline-accepts, deadline-due}
@@ -79,7 +79,7 @@ use Rattle.ardenquill.specs.Flat.{coded, flat}
 use Rattle.ardenquill.specs.Records.{Refusal, Chain, ChainAnswer, LengthAnswer, Analysis, Run, Outcome, Clean, Overflowed, NoDeadline, Ticked, TickAnswer}
 use Rattle.ardenquill.specs.Reports.{reportText, reportRefusal, report-accepts}
 use Rattle.promises.specs.Replay.{pOf, τOf, cOf, Accepts, line, rateX, rateY, replayAnswer, Fires, AllSlots, Passes, Ample, Low, NearestFirst, Runs, accepts-is, fires-is}
-use Rattle.promises.specs.Laws.{report-is, x-is, y-is, by-is, capacity-is, rate-x-is, rate-y-is, last, minimum-by, minimum-as, largest-multiple, may-run-is, run-quiet, silents-append, whole, passes-is, index-down, taken, state-is, moment, follows-at, parts, sound, ends-in, keeps, fed-by, minimum-is, margin-is, output-silent, code-overflowed, code-undated, code-clean}
+use Rattle.promises.specs.Laws.{report-is, x-is, y-is, by-is, capacity-is, rate-x-is, rate-y-is, last, minimum-by, minimum-as, largest-multiple, may-run-is, run-quiet, silents-append, whole, passes-is, index-down, taken, state-is, moment, one-firing, parts, sound, ends-in, keeps, fed-by, minimum-is, margin-is, output-silent, code-overflowed, code-undated, code-clean}
 use Rattle.promises.specs.ByTicks.{DeadlineRuns, ticksFrom, ticks-are-run}
 use Rattle.promises.specs.Demand1.{tick-stays, deadline-run-empty}
 
@@ -277,7 +277,7 @@ module _ (c : Chain) (k : ℕ) (ran : Runs c k) where
 
   -- they are by 01's rule: "No source firing happens while another node may fire, and among those that may, the one nearest the sink goes first"
   pub immediate-rule : NearestFirst c (schedule c k)
-  immediate-rule g l i e = rw (moment c (schedule c k) immediate-fires g _ e) (follows-at c (freshRun c) g i l (subst (Follows c (freshRun c)) e (rule (sound c k ran) k)))
+  immediate-rule g l i e = rw (moment c (schedule c k) immediate-fires g _ e) (one-firing c _ (freshRun c) g i l (subst (Follows c (freshRun c)) e (rule (sound c k ran) k)))
 
   -- "a run of k source firings"
   pub immediate-source : times 0 (schedule c k) ≡ k
@@ -286,6 +286,10 @@ module _ (c : Chain) (k : ℕ) (ran : Runs c k) where
   -- which ends with no other node to fire
   pub immediate-ends : Low c (immediateAnswer c k .run)
   immediate-ends = rw (ends-in c k ran) (λ j l. immediate.ends (sound c k ran) k j (omega arith) l)
+
+  -- a count is how often the node stands among them
+  pub immediate-counted : (i : ℕ) → i ≤ c .n → countAt (immediateAnswer c k .run) i ≡ times i (schedule c k)
+  immediate-counted i l = rw (ends-in c k ran) (counted c (parts c k ran .0 .0) (schedule c k) i l)
 
   -- its counts are F
   pub immediate-counts : (i : ℕ) → i ≤ c .n → countAt (immediateAnswer c k .run) i ≡ F c k i

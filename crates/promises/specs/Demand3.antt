@@ -13,10 +13,14 @@
 --                            "no queue passes that minimum"
 --   rate, rates, rate-exact  "a node that has fired keeps exactly its x firings per y ticks": one cycle, m of them, and that y is whole periods of the source
 --   naming                   "unless that queue has held at least the minimum"
+--   never-over, held-up      no permitted order passes a capacity in force; so where one is below the minimum, its producer never fires the naming count
 use mathlib.Core.Path.{_≡_, _∙_}
+use mathlib.Core.Logic.{by-cases}
 use mathlib.Core.List.{List}
 use Prim.Native.Nat.{ℕ, suc, _+_, _*_, _/_, _≤_, _<_, _∣_}
 use native.Mathlib.Nat.{le-refl, one-mul}
+use native.Mathlib.Decide.{decLt}
+use native.Mathlib.Omega.{arith}
 use Rattle.ardenquill.specs.Chains.{rowOf}
 use Rattle.ardenquill.specs.Analyses.{y-source, start, Accepted}
 use Rattle.ardenquill.specs.Runs.{countAt, heldAt, freshRun}
@@ -26,7 +30,7 @@ use Rattle.ardenquill.specs.Immediate as immediate
 use Rattle.ardenquill.specs.Immediate.{F, schedule, immediateAnswer}
 use Rattle.ardenquill.specs.Records.{Chain}
 use Rattle.promises.specs.Replay.{pOf, cOf, Accepts, line, replayAnswer, Fires, Always, Sometime, AtOnce, NearestFirst, Runs, accepts-is}
-use Rattle.promises.specs.Laws.{x-is, y-is, minimum-is, by-is, accepted, permits, state-is, moment, prompts, parts}
+use Rattle.promises.specs.Laws.{x-is, y-is, minimum-is, by-is, capacity-is, running-at, accepted, permits, state-is, moment, prompts, parts}
 use Rattle.promises.specs.Demand2.{immediate-fires, immediate-rule, immediate-counts}
 
 -- an order by the rule fires no node while the node that it feeds is over threshold
@@ -53,6 +57,16 @@ module _ (c : Chain) (h : List ℕ) (ok : Fires c h) where
   pub naming : (j : ℕ) → j < c .n → line c j .by ≤ times j h → Sometime c h (λ s. line c j .minimum ≤ heldAt s j)
   naming j l often =
       at-some (λ g k e m. rw (moment c h ok g k e, minimum-is c (accepted c h ok) j l) m) (histories.naming c (accepted c h ok) h (permits c h ok) j l (rw (by-is c (accepted c h ok) j l) at often))
+
+  -- 01's "Filling to exactly the capacity is allowed", and no more: no permitted order holds more than the capacity in force, at any moment
+  pub never-over : (j : ℕ) → j < c .n → Always c h (λ s. heldAt s j ≤ line c j .capacity)
+  never-over j l g k e = rw (capacity-is c (accepted c h ok) j l) (running-at c h ok g k e .state j l .0 .1)
+
+  -- so where that capacity is below the reported minimum its producer is held up for good: no permitted order lets it fire as often as 01 names for its queue
+  pub held-up : (j : ℕ) → j < c .n → line c j .capacity < line c j .minimum → times j h < line c j .by
+  held-up j l short = by-cases (decLt (times j h) (line c j .by))
+      (λ few. few)
+      (λ n. let m = naming j l (omega arith) in absurd (omega (arith, m .holds, never-over j l (m .before) (m .later) (m .parts))))
 
 -- "When nodes fire at once .. no queue passes that minimum", of the immediate run, which is refused 8 where a capacity is below it
 pub run-peak : (c : Chain) (k : ℕ) → Runs c k → (j : ℕ) → j < c .n → Always c (schedule c k) (λ s. heldAt s j ≤ line c j .minimum)
