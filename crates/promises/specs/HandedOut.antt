@@ -5,8 +5,8 @@
 --                            the immediate run, and the deadline run, is not refused (Replay, ByTicks)
 --   HandedOut c s            a call for the chain c that is not refused hands out s: a fresh start, a manual firing, an immediate run, a tick, whatever its outcome,
 --                            or a deadline run, whatever its outcome
---   handed-out-slots, handed-out-passes
---                            such a state has all its slots, and passes 17 for c
+--   handed-out-running, -slots, -passes
+--                            such a state has all its slots, and passes 17 for c, which is accepted
 --   handed-out-work          so no call leaves work done of e
 --   fire-never-17, tick-never-17
 --                            and no call refuses such a state 17
@@ -64,7 +64,7 @@ after-tick c s slots ok = record { chain = accepts-is c .0 may; whole = ticks.wh
     passes = ⊎-elim (tick-passes c s slots ok) (λ n. rw (tick-ends c s slots ok n) (tick-when c s .0 ok .1 .0)) (clean-or (tickAnswer c s .outcome))
 
 -- all slots, two ways
-slots-of : {c : Chain} {s : Run} → Running c s → AllSlots s
+pub slots-of : {c : Chain} {s : Run} → Running c s → AllSlots s
 slots-of r = record { counts = r .whole .counts; held = r .whole .held; done = r .whole .done }
 
 -- a deadline run, and every shorter one
@@ -79,23 +79,23 @@ after-run c T ok (suc t) l =
     (λ n. rw (run-stops c T ok t l n) before)
     (clean-or (deadlineRunAnswer c t .outcome))
 
--- each of them
-running : {c : Chain} {s : Run} → HandedOut c s → Running c s
-running {c} (by-fresh ok) = after-fresh c ok
-running {c} (by-fire s i slots ok) = after-firing c s i slots ok
-running {c} (by-immediate k ok) = after-immediate c k ok
-running {c} (by-tick s slots ok) = after-tick c s slots ok
-running {c} (by-deadline-run T ok) = after-run c T ok T (le-refl T)
+-- each of them is of an accepted chain, has all its slots and passes 17
+pub handed-out-running : {c : Chain} {s : Run} → HandedOut c s → Running c s
+handed-out-running {c} (by-fresh ok) = after-fresh c ok
+handed-out-running {c} (by-fire s i slots ok) = after-firing c s i slots ok
+handed-out-running {c} (by-immediate k ok) = after-immediate c k ok
+handed-out-running {c} (by-tick s slots ok) = after-tick c s slots ok
+handed-out-running {c} (by-deadline-run T ok) = after-run c T ok T (le-refl T)
 
 module _ {c : Chain} {s : Run} (h : HandedOut c s) where
   -- a state that is handed out has all its slots
   pub handed-out-slots : AllSlots s
-  handed-out-slots = slots-of (running h)
+  handed-out-slots = slots-of (handed-out-running h)
 
   -- and none of 17's reasons: it "breaks the balance (p × producer's count − c × consumer's count is not what is held), passes a capacity, or has work done of e or
   -- more" at no queue
   pub handed-out-passes : (j : ℕ) → j < c .n → Passes c s j
-  handed-out-passes = passes-is c s (accepts-is c .1 (running h .chain)) .0 (running h .state)
+  handed-out-passes = passes-is c s (accepts-is c .1 (handed-out-running h .chain)) .0 (handed-out-running h .state)
 
   -- "work done of e is left only by an overflow at a finish", which does not happen: no call leaves it
   pub handed-out-work : (j : ℕ) → j < c .n → doneAt s j < workOf c j
@@ -104,7 +104,7 @@ module _ {c : Chain} {s : Run} (h : HandedOut c s) where
   -- no queue is the first that is broken
   unbroken : (L : ℕ) → FirstBroken c s L → ⊥
   unbroken L f =
-      let k = running h .state L (f .queue) in
+      let k = handed-out-running h .state L (f .queue) in
       ⊎-elim (⊎-elim (λ n. n (k .0 .0)) (λ full. omega (arith, k .0 .1))) (λ late. omega (arith, k .1)) (f .broken)
 
   -- "every call that is handed a run state checks 17", and manual firing never refuses such a state so

@@ -9,6 +9,7 @@ pub mod HandedOut
 pub mod ByCounts
 pub mod Demand3
 pub mod Beyond
+pub mod Mixed
 pub mod Replayed
 pub mod Ran
 pub mod ReadBack

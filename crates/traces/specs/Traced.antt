@@ -1,5 +1,5 @@
 -- The firings of a deadline run are a permitted history (01, Firing, and demand 3).
---   replays-one, replays-then  a firing that may be, and one trace after the other
+--   replays-none, -one, -then  no firing, a firing that may be, and one trace after the other
 --   tick-traced, traced        one tick, and so many of them
 --   run-traced                 a deadline run from a fresh start
 --   run-counted, run-balance, run-naming
@@ -46,7 +46,7 @@ resting-may (suc j) m = record { node = m .node; countable = m .countable; over 
 
 module _ (c : Chain) (s : Run) where
   -- no firing, between states with the same counts and contents
-  replays-none : (t : Run) → s .counts ≡ t .counts → s .held ≡ t .held → Replays c s [] t
+  pub replays-none : (t : Run) → s .counts ≡ t .counts → s .held ≡ t .held → Replays c s [] t
   unfolding EachFiring after
   replays-none t a h = (tt, λ i. record { clock = 0; counts = a i; held = h i; done = replicate 16 0 })
 
