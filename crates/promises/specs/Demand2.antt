@@ -19,8 +19,8 @@
 --                            "deadlines"
 --   May c s i, Passes c s j, AllSlots s
 --                            9, 11 and 12 let N_i fire in s (Runs); s passes 17 at queue j, and has all its slots (Replay)
---   fire-when, FiredOnce, fire-does
---                            "manual firing"
+--   fresh-when, fresh-is, fire-when, FiredOnce, fire-does
+--                            "manual firing": a fresh start and one firing, accepted when and what it leaves
 --   Runs c k, Fires c h, NearestFirst c h, Low c s, Ample c j
 --                            the immediate run is not refused; a permitted order; by the rule; only the source may fire; a capacity that is not below the
 --                            minimum (Replay)
@@ -68,7 +68,7 @@ use Rattle.ardenquill.specs.Chains.{Silents, tab, rowOf, workOf, trimmed, Sound
 use Rattle.ardenquill.specs.Files.{countOf, queuesAt, nodesAt, readAnswer, packedLength, packed, writeRefusal, Output, Bytes, packedFile, read-of-write, write-of-read, packed-again, chainOf, AcceptedFile, read-accepts, write-accepts}
 use Rattle.ardenquill.specs.Analyses.{ceil, gcd, gcd-pos-left, residue, residue-000, residue-004, naming, common, nextX, nextY, xOf, yOf, y-multiple, busyIn, runChecks, analysisOf, analyseAnswer, Accepted, capacity-minimum, capacity-written, margin-unwritten, margin-balance}
 use Rattle.ardenquill.specs.Runs as runs
-use Rattle.ardenquill.specs.Runs.{countAt, heldAt, freshRun, fired, May, stateCheck, state-silent, Whole, Firing, firing-is, fireAnswer, fire-accepts, fire-accepted, count-fired, count-other, held-output, held-other}
+use Rattle.ardenquill.specs.Runs.{countAt, heldAt, freshRun, freshAnswer, fresh-empty, fresh-state, fired, May, stateCheck, state-silent, Whole, Firing, firing-is, fireAnswer, fire-accepts, fire-accepted, count-fired, count-other, held-output, held-other}
 use Rattle.ardenquill.specs.Histories.{times, counted}
 use Rattle.ardenquill.specs.Immediate as immediate
 use Rattle.ardenquill.specs.Immediate.{F, fires, fires-below, fires-from, schedule, Follows, rule, immediateAnswer, immediate-accepts, permitted, counts-are-F}
@@ -222,6 +222,16 @@ deadline-next c i k asked =
     let too = deadline-accepts c i (indexBefore c i k) .1 (p .0, ((omega (arith, p .1 .0 .0), rw (← same) (earlier-some (rowOf c i) k)), λ j l. rw (← same, ← index-down c i k j l) (p .1 .1 j (omega arith)))) in
     (too, deadline-due c (suc i) k asked ∙ ap (deadline c i) same ∙ sym (deadline-due c i (indexBefore c i k) too))
 
+-- 01's "A fresh start begins a new history": it is accepted exactly when the chain is
+pub fresh-when : (c : Chain) → (freshAnswer c .number ≡ 0) ↔ Accepts c
+unfolding freshAnswer runs.answered analyseAnswer
+fresh-when c = Iff·rfl
+
+-- and then no node has fired, "every queue starts empty", no work is done and the clock is 0
+pub fresh-is : (c : Chain) → Accepts c → freshAnswer c .run ≡ record { clock = 0; counts = replicate 17 0; held = replicate 16 0; done = replicate 16 0 }
+unfolding analyseAnswer
+fresh-is c ok = fresh-state c ok ∙ sym (fresh-empty c)
+
 -- 01's "finished firing adds p to the output queue, if any, then removes c from the input queue, if any", and "changes only the fired node's count and the
 -- contents of its queues, not clock or work done"; t is the state after it
 pub record FiredOnce (c : Chain) (s : Run) (i : ℕ) (t : Run) : Type 0 where
@@ -322,7 +332,7 @@ module _ (c : Chain) (T : ℕ) (ran : DeadlineRuns c T) where
   deadline-run-is = ticks.run-answers c T ran
 
   -- which is what T ticks, one after the other, answer
-  pub by-ticks : deadlineRunAnswer c T ≡ ticksFrom c T (runs.freshAnswer c .run)
+  pub by-ticks : deadlineRunAnswer c T ≡ ticksFrom c T (freshAnswer c .run)
   by-ticks = ticks-are-run c T ran
 
   -- 13's "first instant when", and an overflow's: it ends at t so exactly when the run of t ticks is clean and the tick from the state that it leaves says so
