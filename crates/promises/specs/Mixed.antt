@@ -9,23 +9,28 @@
 --                            the same from a fresh start
 --   stepFirings c s x, made c xs
 --                            the firings of one step, with their instants, and the nodes that fired in all steps from a fresh start, in order
---   step-counted             a step's firings are what the counts have grown by
+--   step-counted, tick-source-first
+--                            the firings of a step are what the counts grow by; of those of a tick the source's comes first
 --   mixed-passes             the state after such a history passes 17
 --   mixed-fires, mixed-state manual firing accepts its firings in turn, and after them counts and contents are its own
 --   mixed-counted, mixed-balance, mixed-naming
 --                            so demand 3 holds of it, as of every permitted order (and never-over and held-up, Demand3)
 use mathlib.Core.Path.{_≡_, refl, sym, ap, subst, _∙_}
-use mathlib.Core.List.{List, [], _∷_, _++_}
-use Prim.Native.Nat.{ℕ, suc, _+_, _*_, _≤_, _<_}
+use mathlib.Core.Bool.{Bool, true, false, cond}
+use mathlib.Core.Logic.{by-cases}
+use mathlib.Core.List.{List, [], _∷_, _++_, map-append}
+use Prim.Native.Nat.{ℕ, zero, suc, _+_, _*_, _≤_, _<_}
+use native.Mathlib.Decide.{ℕ-discrete}
 use native.Mathlib.Omega.{arith}
+use lib.ListN.{length, drop}
 use Rattle.ardenquill.specs.Chains.{rowOf}
 use Rattle.ardenquill.specs.Analyses.{start}
-use Rattle.ardenquill.specs.Runs.{countAt, heldAt, freshRun, answered, freshAnswer, fresh-state, fireAnswer, fire-accepted, firing-is}
-use Rattle.ardenquill.specs.Histories.{times, counted-from}
-use Rattle.ardenquill.specs.Ticks.{outcomeOf, tickAnswer, ticking-is, tick-ran, Running, Entry, nodes, tickTrace, resting, Replays, replays-none, replays-one, replays-then, tick-traced}
-use Rattle.ardenquill.specs.Records.{Chain, Run, TickAnswer}
-use Rattle.promises.specs.Replay.{pOf, cOf, line, Passes, replayAnswer, Fires, Sometime, fires-is, fires-state, accepts-is}
-use Rattle.promises.specs.Laws.{passes-is}
+use Rattle.ardenquill.specs.Runs.{countAt, heldAt, freshRun, answered, freshAnswer, fresh-state, fireAnswer, fire-accepted, Firing, firing-is}
+use Rattle.ardenquill.specs.Histories.{times, times-again, times-other, counted-from}
+use Rattle.ardenquill.specs.Ticks.{divides, begun, advanced, finished, ended, outcomeOf, tickAnswer, Ticking, ticking-is, tick-ran, Running, Entry, nodes, tracing, sourceEntry, finishEntry, finishTrace, tickTrace, resting, Replays, replays-none, replays-one, replays-then, tick-traced}
+use Rattle.ardenquill.specs.Records.{Chain, Run, Outcome, Clean, Overflowed, NoDeadline, TickAnswer}
+use Rattle.promises.specs.Replay.{pOf, cOf, line, AllSlots, Passes, replayAnswer, Fires, Sometime, fires-is, fires-state, accepts-is}
+use Rattle.promises.specs.Laws.{whole, passes-is}
 use Rattle.promises.specs.HandedOut.{HandedOut, by-fresh, by-fire, by-tick, handed-out-running, slots-of}
 use Rattle.promises.specs.Demand3 as demand
 
@@ -75,30 +80,80 @@ firingsFrom c s (x ∷ xs) = stepFirings c s x ++ firingsFrom c (stepRun c s x) 
 abbrev pub made : Chain → List Step → List ℕ
 made c xs = nodes (firingsFrom c (freshAnswer c .run) xs)
 
--- one step of a state that passes 17
-module _ {c : Chain} {s : Run} (r : Running c s) where
+-- one step of a state that has all its slots, which is not refused
+module _ (c : Chain) (s : Run) (slots : AllSlots s) where
   -- hands out a state
   step-out : (x : Step) → stepNumber c s x ≡ 0 → HandedOut c (stepRun c s x)
-  step-out (firing i) ok = by-fire s i (slots-of r) ok
-  step-out ticking ok = by-tick s (slots-of r) ok
+  step-out (firing i) ok = by-fire s i slots ok
+  step-out ticking ok = by-tick s slots ok
 
   -- to which its firings lead
   step-replays : (x : Step) → stepNumber c s x ≡ 0 → Replays c s (stepFirings c s x) (stepRun c s x)
   unfolding fireAnswer answered tickAnswer outcomeOf
-  step-replays (firing i) ok = rw (fire-accepted c s i ok) (replays-one c s r (s .clock) i (firing-is c s i .0 ok .may))
-  step-replays ticking ok = subst (λ (a : TickAnswer). Replays c s (tickTrace c s) (a .run)) (sym (tick-ran c s ok)) (tick-traced r (ticking-is c s .0 ok .countable))
+  step-replays (firing i) ok =
+      let f : Firing c s i = firing-is c s i .0 ok in
+      rw (fire-accepted c s i ok) (replays-one c s (record { chain = f .chain; whole = whole slots; state = f .state }) (s .clock) i (f .may))
+  step-replays ticking ok =
+      let k : Ticking c s = ticking-is c s .0 ok in
+      subst (λ (a : TickAnswer). Replays c s (tickTrace c s) (a .run)) (sym (tick-ran c s ok)) (tick-traced (record { chain = k .chain; whole = whole slots; state = k .state }) (k .countable))
 
-  -- each node fires in it as often as its count grows
+  -- each node stands among them as often as its count grows: of a tick at most once (source-fires, Demand2, and node-fires, TickInNumbers)
   pub step-counted : (x : Step) → stepNumber c s x ≡ 0 → (i : ℕ) → i ≤ c .n → countAt (stepRun c s x) i ≡ countAt s i + times i (nodes (stepFirings c s x))
-  step-counted x ok i l = ap (λ (t : Run). countAt t i) (sym (step-replays x ok .1)) ∙ counted-from c (resting s) (nodes (stepFirings c s x)) i (omega (arith, r .whole .counts, r .chain .chain .count .1))
+  step-counted x ok i l =
+      ap (λ (t : Run). countAt t i) (sym (step-replays x ok .1))
+      ∙ counted-from c (resting s) (nodes (stepFirings c s x)) i (omega (arith, slots .counts, handed-out-running (step-out x ok) .chain .chain .count .1))
+
+-- a list in which the source stands
+source-in : (before later : List ℕ) → 0 < times 0 (before ++ (0 ∷ later))
+source-in [] later = omega (arith, times-again 0 0 later refl)
+source-in (i ∷ before) later = by-cases (ℕ-discrete i 0) (λ z. omega (arith, times-again i 0 (before ++ (0 ∷ later)) z)) (λ n. omega (arith, times-other i 0 (before ++ (0 ∷ later)) n, source-in before later))
+
+-- the source stands first where one node at most comes before a list in which it does not stand
+source-first : (a b before later : List ℕ) → length a ≤ 1 → times 0 b ≡ 0 → a ++ b ≡ before ++ (0 ∷ later) → before ≡ []
+source-first a b [] later l z e = refl
+source-first [] b (i ∷ before) later l z e = absurd (omega (arith, source-in (i ∷ before) later, ap (times 0) e))
+source-first (j ∷ []) b (i ∷ before) later l z e = absurd (omega (arith, source-in before later, ap (λ (h : List ℕ). times 0 (drop 1 h)) e))
+source-first (j ∷ k ∷ a) b (i ∷ before) later l z e = absurd (omega (arith, l))
+
+-- "One tick at clock t is the source's step, .. and the effect at t+1 of a firing then finished": of the firings of a tick the source's comes first
+pub tick-source-first : (c : Chain) (s : Run) (before later : List ℕ) → nodes (stepFirings c s ticking) ≡ before ++ (0 ∷ later) → before ≡ []
+unfolding tickTrace tracing sourceEntry finishTrace finishEntry times
+tick-source-first c s before later e =
+    let first : List Entry = tracing (begun c s .outcome) s (λ u. sourceEntry c s) in
+    let last : List Entry = tracing (advanced c s .outcome) (advanced c s .run) (finishTrace c) in
+    source-first (nodes first) (nodes last) before later (once (begun c s .outcome)) (others (advanced c s .outcome) (advanced c s .run)) (sym (map-append (λ (x : Entry). x .1) first last) ∙ e)
+  where
+    once : (o : Outcome) → length (nodes (tracing o s (λ u. sourceEntry c s))) ≤ 1
+    once Clean = by (divides (c .period) (s .clock))
+      where
+        by : (b : Bool) → length (nodes (cond b ((s .clock, 0) ∷ []) [])) ≤ 1
+        by true = omega arith
+        by false = omega arith
+    once (Overflowed t q) = omega arith
+    once (NoDeadline t i) = omega arith
+
+    effect : (v : Run) (i : ℕ) → times 0 (nodes (finishEntry v i)) ≡ 0
+    effect v zero = refl
+    effect v (suc j) = times-other (suc j) 0 [] (λ z. omega arith)
+
+    finish : (o : Outcome) (v : Run) → times 0 (nodes (tracing o v (λ u. finishEntry v (ended c v)))) ≡ 0
+    finish Clean v = effect v (ended c v)
+    finish (Overflowed t q) v = refl
+    finish (NoDeadline t i) v = refl
+
+    others : (o : Outcome) (v : Run) → times 0 (nodes (tracing o v (finishTrace c))) ≡ 0
+    others Clean v = finish (finished c v .outcome) v
+    others (Overflowed t q) v = refl
+    others (NoDeadline t i) v = refl
 
 -- so many steps
 steps-replay : {c : Chain} {s : Run} → Running c s → (xs : List Step) → Taken c s xs → Running c (runAfter c s xs) × Replays c s (firingsFrom c s xs) (runAfter c s xs)
 unfolding Taken runAfter firingsFrom
 steps-replay {c} {s} r [] ok = (r, replays-none c s s refl refl)
 steps-replay {c} {s} r (x ∷ xs) ok =
-    let more = steps-replay (handed-out-running (step-out r x (ok .0))) xs (ok .1) in
-    (more .0, replays-then c s (stepRun c s x) (runAfter c (stepRun c s x) xs) (stepFirings c s x) (firingsFrom c (stepRun c s x) xs) (step-replays r x (ok .0)) (more .1))
+    let slots : AllSlots s = slots-of r in
+    let more = steps-replay (handed-out-running (step-out c s slots x (ok .0))) xs (ok .1) in
+    (more .0, replays-then c s (stepRun c s x) (runAfter c (stepRun c s x) xs) (stepFirings c s x) (firingsFrom c (stepRun c s x) xs) (step-replays c s slots x (ok .0)) (more .1))
 
 module _ (c : Chain) (xs : List Step) (ok : Mixes c xs) where
   -- a fresh start, and then the steps
