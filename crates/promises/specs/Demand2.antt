@@ -71,7 +71,7 @@ use Rattle.ardenquill.specs.Runs as runs
 use Rattle.ardenquill.specs.Runs.{countAt, heldAt, freshRun, freshAnswer, fresh-empty, fresh-state, fired, May, stateCheck, state-silent, Whole, Firing, firing-is, fireAnswer, fire-accepts, fire-accepted, count-fired, count-other, held-output, held-other}
 use Rattle.ardenquill.specs.Histories.{times, counted}
 use Rattle.ardenquill.specs.Immediate as immediate
-use Rattle.ardenquill.specs.Immediate.{F, fires, fires-below, fires-from, schedule, Follows, rule, immediateAnswer, immediate-accepts, permitted, counts-are-F}
+use Rattle.ardenquill.specs.Immediate.{F, schedule, Follows, rule, immediateAnswer, immediate-accepts, permitted, counts-are-F}
 use Rattle.ardenquill.specs.Deadlines.{earlier, earlier-some, deadline, index, answeredDue, deadlineAnswer, deadline-accepts, deadline-due}
 use Rattle.ardenquill.specs.Ticks as ticks
 use Rattle.ardenquill.specs.Ticks.{kindOf, tickOf, atOf, outcomeOf, tickAnswer, deadlineRunAnswer, ranAs, left, tick-accepts, tick-9, deadline-run-accepts, TickOnce, once-counts, once-keeps, Spills, Lacks, OneTick, one-overflows, one-lacks, one-cleans, one-stays, one-leaves, TicksTo, answer-one, answer-exactly, Ends, HowMany, total, Waits, Rising, trace, entriesOf, FiredAt, source-entries, entries-when, entries-apart, entries-first, entries-rise}
@@ -79,8 +79,9 @@ use Rattle.ardenquill.specs.Flat.{coded, flat}
 use Rattle.ardenquill.specs.Records.{Refusal, Chain, ChainAnswer, LengthAnswer, Analysis, Run, Outcome, Clean, Overflowed, NoDeadline, Ticked, TickAnswer}
 use Rattle.ardenquill.specs.Reports.{reportText, reportRefusal, report-accepts}
 use Rattle.promises.specs.Replay.{pOf, τOf, cOf, Accepts, line, rateX, rateY, replayAnswer, Fires, AllSlots, Passes, Ample, Low, NearestFirst, Runs, accepts-is, fires-is}
-use Rattle.promises.specs.Laws.{report-is, x-is, y-is, by-is, capacity-is, rate-x-is, rate-y-is, last, minimum-by, minimum-as, largest-multiple, may-run-is, run-quiet, silents-append, whole, passes-is, index-down, taken, state-is, moment, one-firing, parts, sound, ends-in, keeps, fed-by, minimum-is, margin-is, output-silent, code-overflowed, code-undated, code-clean}
+use Rattle.promises.specs.Laws.{report-is, x-is, y-is, by-is, capacity-is, rate-x-is, rate-y-is, last, minimum-by, minimum-as, largest-multiple, may-run-is, run-quiet, silents-append, whole, passes-is, index-down, taken, state-is, moment, one-firing, parts, sound, ends-in, keeps, minimum-is, margin-is, output-silent, code-overflowed, code-undated, code-clean}
 use Rattle.promises.specs.ByTicks.{DeadlineRuns, ticksFrom, ticks-are-run}
+use Rattle.promises.specs.ByCounts.{rule-exhausted, exact-count}
 use Rattle.promises.specs.Demand1.{tick-stays, deadline-run-empty}
 
 -- 01's "a chain it doesn't refuse is accepted": its fields in their ranges, no consume above its threshold, every rate within the limit, and no overload
@@ -308,13 +309,10 @@ module _ (c : Chain) (k : ℕ) (ran : Runs c k) where
   -- "F_0 = k; F_(i+1) is 0 while p×F_i is below τ, else (p×F_i − τ)/c rounded down, plus 1 (004, Lemma 5.1)"
   pub immediate-exact : let N = countAt (immediateAnswer c k .run) in
       (N 0 ≡ k) × ((i : ℕ) → i < c .n → (pOf c i * N i < τOf c i → N (suc i) ≡ 0) × (τOf c i ≤ pOf c i * N i → N (suc i) ≡ (pOf c i * N i - τOf c i) / cOf c i + 1))
-  unfolding F
-  immediate-exact = (
-    immediate-counts 0 (omega arith),
-    λ i l.
-        let by = immediate-counts (suc i) l ∙ fed-by c k i ∙ ap (λ (m : ℕ). fires (τOf c i) (cOf c i) (pOf c i * m)) (sym (immediate-counts i (omega arith))) in
-        (λ b. by ∙ fires-below _ _ _ b, λ b. by ∙ fires-from _ _ _ b),
-  )
+  immediate-exact =
+      let ok : Accepts c = accepts-is c .1 (parts c k ran .0 .0) in
+      let exact = exact-count c ok (rule-exhausted c ok k) in
+      (immediate-counted 0 (omega arith) ∙ exact .0, λ i l. rw (immediate-counted i (omega arith), immediate-counted (suc i) l) (exact .1 i l))
 
   -- "clock and work done stay 0"
   pub immediate-rest : (immediateAnswer c k .run .clock ≡ 0) × (immediateAnswer c k .run .done ≡ replicate 16 0)

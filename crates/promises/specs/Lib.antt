@@ -2,11 +2,11 @@ pub mod Replay
 pub mod Order
 pub mod Laws
 pub mod ByTicks
+pub mod ByCounts
 pub mod Demand1
 pub mod Demand2
 pub mod TickInNumbers
 pub mod HandedOut
-pub mod ByCounts
 pub mod Demand3
 pub mod Beyond
 pub mod Mixed
