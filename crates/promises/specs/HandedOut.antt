@@ -23,7 +23,7 @@ use Rattle.ardenquill.specs.Ticks as ticks
 use Rattle.ardenquill.specs.Ticks.{outcomeOf, tickRefusal, tickAnswer, deadlineRunAnswer, tick-17, Running, fired-running, fresh-running, clean-or, ran-to, run-may, run-start, run-next, run-stops}
 use Rattle.ardenquill.specs.Records.{Chain, Run, TickAnswer}
 use Rattle.promises.specs.Replay.{Accepts, AllSlots, Passes, Runs, accepts-is}
-use Rattle.promises.specs.Laws.{whole, passes-is, running-after, permits, parts, ends-in}
+use Rattle.promises.specs.Laws.{whole, all-slots, passes-is, running-after, permits, parts, ends-in}
 use Rattle.promises.specs.ByTicks.{DeadlineRuns}
 use Rattle.promises.specs.Demand2.{immediate-fires, tick-when, tick-ends}
 use Rattle.promises.specs.TickInNumbers.{tick-passes}
@@ -63,10 +63,6 @@ after-tick c s slots ok = record { chain = accepts-is c .0 may; whole = ticks.wh
     passes : (j : ℕ) → j < c .n → Passes c (tickAnswer c s .run) j
     passes = ⊎-elim (tick-passes c s slots ok) (λ n. rw (tick-ends c s slots ok n) (tick-when c s .0 ok .1 .0)) (clean-or (tickAnswer c s .outcome))
 
--- all slots, two ways
-pub slots-of : {c : Chain} {s : Run} → Running c s → AllSlots s
-slots-of r = record { counts = r .whole .counts; held = r .whole .held; done = r .whole .done }
-
 -- a deadline run, and every shorter one
 after-run : (c : Chain) (T : ℕ) → DeadlineRuns c T → (t : ℕ) → t ≤ T → Running c (deadlineRunAnswer c t .run)
 after-run c T ok zero l = rw (run-start c T ok) (fresh-running (run-may c T ok .0 .0))
@@ -75,7 +71,7 @@ after-run c T ok (suc t) l =
     ⊎-elim
     (λ z.
     let e : deadlineRunAnswer c (suc t) ≡ tickAnswer c (deadlineRunAnswer c t .run) = run-next c T ok t l z in
-    rw e (after-tick c (deadlineRunAnswer c t .run) (slots-of before) (ap (λ (a : TickAnswer). a .number) (sym e ∙ ran-to c T ok (suc t) l))))
+    rw e (after-tick c (deadlineRunAnswer c t .run) (all-slots (before .whole)) (ap (λ (a : TickAnswer). a .number) (sym e ∙ ran-to c T ok (suc t) l))))
     (λ n. rw (run-stops c T ok t l n) before)
     (clean-or (deadlineRunAnswer c t .outcome))
 
@@ -90,7 +86,7 @@ handed-out-running {c} (by-deadline-run T ok) = after-run c T ok T (le-refl T)
 module _ {c : Chain} {s : Run} (h : HandedOut c s) where
   -- a state that is handed out has all its slots
   pub handed-out-slots : AllSlots s
-  handed-out-slots = slots-of (handed-out-running h)
+  handed-out-slots = all-slots (handed-out-running h .whole)
 
   -- and none of 17's reasons: it "breaks the balance (p × producer's count − c × consumer's count is not what is held), passes a capacity, or has work done of e or
   -- more" at no queue

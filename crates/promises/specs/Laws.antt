@@ -7,7 +7,8 @@
 --                            the residue of a queue, its minimum by it and by what else it is, and that it is a largest multiple
 --   may-run-is, run-quiet    two ways to say of a chain that it may run; and then none of the checks of a run speaks
 --   silents-append           nor of two lists of checks in a row where none of either does
---   whole, passes-is         two ways to say of a state that it has all slots, and that it passes 17
+--   whole, all-slots, passes-is
+--                            two ways to say of a state that it has all slots, and that it passes 17
 --   index-down               an index on the way down to the source
 --   taken, fed-by            what a firing takes, and a count from the one before it
 --   each-firing, one-firing  what holds of each firing of an order, from what holds of one of them, and back
@@ -122,6 +123,9 @@ silents-append (r ∷ rs) qs a b = (a .0, silents-append rs qs (a .1) b)
 -- two ways to say of a state that it has all slots
 pub whole : {s : Run} → AllSlots s → Whole s
 whole k = record { counts = k .counts; held = k .held; done = k .done }
+
+pub all-slots : {s : Run} → Whole s → AllSlots s
+all-slots k = record { counts = k .counts; held = k .held; done = k .done }
 
 -- and that it passes 17
 pub passes-is : (c : Chain) (s : Run) → Accepts c → StateSound c s ↔ ((j : ℕ) → j < c .n → Passes c s j)

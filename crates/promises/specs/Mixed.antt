@@ -7,7 +7,7 @@
 --   runAfter c s xs          the state after them
 --   Mixes c xs, mixedRun c xs
 --                            the same from a fresh start
---   stepFirings c s x, made c xs
+--   stepFirings c s x, mixedFirings c xs
 --                            the firings of one step, with their instants, and the nodes that fired in all steps from a fresh start, in order
 --   step-counted, tick-source-first
 --                            the firings of a step are what the counts grow by; of those of a tick the source's comes first
@@ -15,6 +15,7 @@
 --   mixed-fires, mixed-state manual firing accepts its firings in turn, and after them counts and contents are its own
 --   mixed-counted, mixed-balance, mixed-naming
 --                            so demand 3 holds of it, as of every permitted order (and never-over and held-up, Demand3)
+--   feed-mixed               such a history of Feed
 use mathlib.Core.Path.{_≡_, refl, sym, ap, subst, _∙_}
 use mathlib.Core.Bool.{Bool, true, false, cond}
 use mathlib.Core.Logic.{by-cases}
@@ -23,16 +24,17 @@ use Prim.Native.Nat.{ℕ, zero, suc, _+_, _*_, _≤_, _<_}
 use native.Mathlib.Decide.{ℕ-discrete}
 use native.Mathlib.Omega.{arith}
 use lib.ListN.{length, drop}
-use Rattle.ardenquill.specs.Chains.{rowOf}
+use Rattle.ardenquill.specs.Chains.{rowOf, factoryAnswer}
 use Rattle.ardenquill.specs.Analyses.{start}
 use Rattle.ardenquill.specs.Runs.{countAt, heldAt, freshRun, answered, freshAnswer, fresh-state, fireAnswer, fire-accepted, Firing, firing-is}
 use Rattle.ardenquill.specs.Histories.{times, times-again, times-other, counted-from}
 use Rattle.ardenquill.specs.Ticks.{divides, begun, advanced, finished, ended, outcomeOf, tickAnswer, Ticking, ticking-is, tick-ran, Running, Entry, nodes, tracing, sourceEntry, finishEntry, finishTrace, tickTrace, resting, Replays, replays-none, replays-one, replays-then, tick-traced}
 use Rattle.ardenquill.specs.Records.{Chain, Run, Outcome, Clean, Overflowed, NoDeadline, TickAnswer}
 use Rattle.promises.specs.Replay.{pOf, cOf, line, AllSlots, Passes, replayAnswer, Fires, Sometime, fires-is, fires-state, accepts-is}
-use Rattle.promises.specs.Laws.{whole, passes-is}
-use Rattle.promises.specs.HandedOut.{HandedOut, by-fresh, by-fire, by-tick, handed-out-running, slots-of}
+use Rattle.promises.specs.Laws.{whole, all-slots, passes-is}
+use Rattle.promises.specs.HandedOut.{HandedOut, by-fresh, by-fire, by-tick, handed-out-running}
 use Rattle.promises.specs.Demand3 as demand
+use Rattle.promises.specs.Beyond.{feed}
 
 -- one call that takes a run state and hands it back
 pub data Step : Type 0 where
@@ -77,8 +79,8 @@ firingsFrom c s [] = []
 firingsFrom c s (x ∷ xs) = stepFirings c s x ++ firingsFrom c (stepRun c s x) xs
 
 -- the nodes that fired, from a fresh start, in order
-abbrev pub made : Chain → List Step → List ℕ
-made c xs = nodes (firingsFrom c (freshAnswer c .run) xs)
+abbrev pub mixedFirings : Chain → List Step → List ℕ
+mixedFirings c xs = nodes (firingsFrom c (freshAnswer c .run) xs)
 
 -- one step of a state that has all its slots, which is not refused
 module _ (c : Chain) (s : Run) (slots : AllSlots s) where
@@ -151,7 +153,7 @@ steps-replay : {c : Chain} {s : Run} → Running c s → (xs : List Step) → Ta
 unfolding Taken runAfter firingsFrom
 steps-replay {c} {s} r [] ok = (r, replays-none c s s refl refl)
 steps-replay {c} {s} r (x ∷ xs) ok =
-    let slots : AllSlots s = slots-of r in
+    let slots : AllSlots s = all-slots (r .whole) in
     let more = steps-replay (handed-out-running (step-out c s slots x (ok .0))) xs (ok .1) in
     (more .0, replays-then c s (stepRun c s x) (runAfter c (stepRun c s x) xs) (stepFirings c s x) (firingsFrom c (stepRun c s x) xs) (step-replays c s slots x (ok .0)) (more .1))
 
@@ -173,21 +175,27 @@ module _ (c : Chain) (xs : List Step) (ok : Mixes c xs) where
   rests = ap resting (fresh-state c (ok .0))
 
   -- manual firing alone accepts the firings in turn
-  pub mixed-fires : Fires c (made c xs)
-  mixed-fires = fires-is c (made c xs) .1 (from-fresh .chain, rw rests at (all .1 .0))
+  pub mixed-fires : Fires c (mixedFirings c xs)
+  mixed-fires = fires-is c (mixedFirings c xs) .1 (from-fresh .chain, rw rests at (all .1 .0))
 
   -- and after them counts and contents are those of the mixed history
-  pub mixed-state : replayAnswer c (made c xs) .run ≡ resting (mixedRun c xs)
-  mixed-state = fires-state c (made c xs) mixed-fires ∙ rw rests at (all .1 .1)
+  pub mixed-state : replayAnswer c (mixedFirings c xs) .run ≡ resting (mixedRun c xs)
+  mixed-state = fires-state c (mixedFirings c xs) mixed-fires ∙ rw rests at (all .1 .1)
 
   -- a count is how often the node fired
-  pub mixed-counted : (i : ℕ) → i ≤ c .n → countAt (mixedRun c xs) i ≡ times i (made c xs)
-  mixed-counted i l = ap (λ (s : Run). countAt s i) (sym mixed-state) ∙ demand.counted c (made c xs) mixed-fires i l
+  pub mixed-counted : (i : ℕ) → i ≤ c .n → countAt (mixedRun c xs) i ≡ times i (mixedFirings c xs)
+  mixed-counted i l = ap (λ (s : Run). countAt s i) (sym mixed-state) ∙ demand.counted c (mixedFirings c xs) mixed-fires i l
 
   -- "each queue holds what its producer's firings put in less what its consumer's took out", as a sum
-  pub mixed-balance : (j : ℕ) → j < c .n → start (rowOf c j) + pOf c j * times j (made c xs) ≡ heldAt (mixedRun c xs) j + cOf c j * times (suc j) (made c xs)
-  mixed-balance j l = rw mixed-state at (demand.balance c (made c xs) mixed-fires j l)
+  pub mixed-balance : (j : ℕ) → j < c .n → start (rowOf c j) + pOf c j * times j (mixedFirings c xs) ≡ heldAt (mixedRun c xs) j + cOf c j * times (suc j) (mixedFirings c xs)
+  mixed-balance j l = rw mixed-state at (demand.balance c (mixedFirings c xs) mixed-fires j l)
 
   -- "in no permitted order can a producer fire as often as 01 names for its queue unless that queue has held at least the minimum"
-  pub mixed-naming : (j : ℕ) → j < c .n → line c j .by ≤ countAt (mixedRun c xs) j → Sometime c (made c xs) (λ s. line c j .minimum ≤ heldAt s j)
-  mixed-naming j l often = demand.naming c (made c xs) mixed-fires j l (omega (arith, mixed-counted j (omega arith)))
+  pub mixed-naming : (j : ℕ) → j < c .n → line c j .by ≤ countAt (mixedRun c xs) j → Sometime c (mixedFirings c xs) (λ s. line c j .minimum ≤ heldAt s j)
+  mixed-naming j l often = demand.naming c (mixedFirings c xs) mixed-fires j l (omega (arith, mixed-counted j (omega arith)))
+
+-- Feed, whose source is fired by hand before the first tick fires it again: its sink is over threshold at once, and fires after 2 ticks of work
+pub feed-mixed : let xs = firing 0 ∷ ticking ∷ ticking ∷ [] in
+    (Mixes feed xs × (mixedFirings feed xs ≡ 0 ∷ 0 ∷ 1 ∷ [])) × ((mixedRun feed xs .clock ≡ 2) × (heldAt (mixedRun feed xs) 0 ≡ 5))
+unfolding factoryAnswer freshAnswer fireAnswer tickAnswer Taken runAfter firingsFrom tickTrace
+feed-mixed = (((refl, (refl, (refl, (refl, tt)))), refl), (refl, refl))
