@@ -65,6 +65,7 @@ runAfter c s (x ∷ xs) = runAfter c (stepRun c s x) xs
 abbrev pub Mixes : Chain → List Step → Type 0
 Mixes c xs = (freshAnswer c .number ≡ 0) × Taken c (freshAnswer c .run) xs
 
+-- and the state that it leads to
 abbrev pub mixedRun : Chain → List Step → Run
 mixedRun c xs = runAfter c (freshAnswer c .run) xs
 
@@ -108,7 +109,9 @@ module _ (c : Chain) (s : Run) (slots : AllSlots s) where
 -- a list in which the source stands
 source-in : (before later : List ℕ) → 0 < times 0 (before ++ (0 ∷ later))
 source-in [] later = omega (arith, times-again 0 0 later refl)
-source-in (i ∷ before) later = by-cases (ℕ-discrete i 0) (λ z. omega (arith, times-again i 0 (before ++ (0 ∷ later)) z)) (λ n. omega (arith, times-other i 0 (before ++ (0 ∷ later)) n, source-in before later))
+source-in (i ∷ before) later = by-cases (ℕ-discrete i 0)
+    (λ z. omega (arith, times-again i 0 (before ++ (0 ∷ later)) z))
+    (λ n. omega (arith, times-other i 0 (before ++ (0 ∷ later)) n, source-in before later))
 
 -- the source stands first where one node at most comes before a list in which it does not stand
 source-first : (a b before later : List ℕ) → length a ≤ 1 → times 0 b ≡ 0 → a ++ b ≡ before ++ (0 ∷ later) → before ≡ []

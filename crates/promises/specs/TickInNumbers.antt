@@ -215,6 +215,7 @@ module _ (c : Chain) (s : Run) (slots : AllSlots s) (ok : tickAnswer c s .number
       passes-is c (tickAnswer c s .run) (may .0) .0 (subst (λ (a : TickAnswer). StateSound c (a .run)) (sym ran) (step .running .state))
 
   module _ (z : tickAnswer c s .outcome ≡ Clean) (j : ℕ) (l : j < c .n) where
+    -- a clean tick leaves such a count, by what the node has worked before and after it
     counts-so : CountsSo c s (tickAnswer c s .run) j
     counts-so = ⊎-elim (λ k. by-cases (ℕ-discrete j (k .queue)) (λ e. own (subst (WorksAsked c s t) (sym e) (k .is))) (λ ne. none (k .is .others j ne))) (λ k. none (k .1 j)) (tick-works z)
       where
