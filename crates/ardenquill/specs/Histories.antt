@@ -9,3 +9,4 @@ pub use Rattle.history.specs.History.{Permitted, Prompt, AtSome, at-some, HasHe
 unfoldable pub use Rattle.history.specs.Queues.{seen, events}
 pub use Rattle.history.specs.Queues.{seen-cases, times-again, times-other, events-append, puts-times, takes-times, held-contents, queue-allowed, queue-settled}
 pub use Rattle.history.specs.Laws.{fresh-slots, fresh-contents, fresh-allowed, fresh-settled, counted, balance, naming, peak-end, peak, reached}
+pub use Rattle.history.specs.Laws.{counted-from}

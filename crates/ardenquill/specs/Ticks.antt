@@ -29,3 +29,6 @@ pub use Rattle.traces.specs.Entries.{instants-append, instants-times, entriesOf
 pub use Rattle.tickpast.specs.Deadlines.{deadline-alike, index-alike, question-alike}
 pub use Rattle.tickpast.specs.Slots.{KeptSlots}
 pub use Rattle.tickpast.specs.Answers.{AlikeAnswers, past-n, past-kept, whole-kept, tick-answer-same, deadline-run-alike, deadline-run-kept, deadline-run-whole}
+pub use Rattle.instants.specs.Kept.{fired-running}
+pub use Rattle.traces.specs.Traced.{replays-none, replays-one, replays-then}
+pub use Rattle.instants.specs.Runs.{clean-or}

@@ -15,10 +15,11 @@
 --   feed, feed-line          the factory chain 0, whose queue has the minimum 10, by 4 firings of the source
 --   three-short              no smaller naming count would do: an accepted list with 3 firings of the source, in which the queue never holds 10
 --   six-full                 no smaller minimum would do: an accepted list in which nodes fire at once, after which the queue holds 10
+--   slow, slow-cycle         an accepted chain with a cycle longer than any immediate run
 use mathlib.Core.Path.{_≡_, refl, sym, ap, subst, _∙_}
 use mathlib.Core.Logic.{_↔_}
 use mathlib.Core.List.{List, [], _∷_}
-use Prim.Native.Nat.{ℕ, suc, _+_, _*_, _≤_, _<_}
+use Prim.Native.Nat.{ℕ, suc, _+_, _*_, _/_, _≤_, _<_}
 use native.Mathlib.Omega.{arith}
 use Rattle.ardenquill.specs.Chains.{rowOf, Sound, queue, made, factoryAnswer}
 use Rattle.ardenquill.specs.Analyses.{start, analyseAnswer, Accepted}
@@ -31,7 +32,7 @@ use Rattle.ardenquill.specs.Ticks.{numberOf, kindOf, onward, ticks, instants, d
 use Rattle.ardenquill.specs.Flat.{flat}
 use Rattle.ardenquill.specs.Records.{Chain, Run, Outcome, Clean, Overflowed, NoDeadline, Ticked, TickAnswer}
 use Rattle.promises.specs.Outcomes.{Cleanly, OverflowedAt, overflowed-is}
-use Rattle.promises.specs.Replay.{pOf, cOf, line, replayAnswer, Fires, Sometime, LowAt, Low, AtOnce, Runs, fires-is, fires-state}
+use Rattle.promises.specs.Replay.{pOf, cOf, line, replayAnswer, Fires, Sometime, LowAt, Low, AtOnce, Runs, fires-is, fires-state, Accepts}
 use Rattle.promises.specs.Laws.{minimum-is, by-is, accepted, permits, state-is, moment, prompts, Each, each-at, Firings, firing-at}
 use Rattle.promises.specs.ByTicks.{DeadlineRuns, answer-is}
 use Rattle.promises.specs.Demand2.{immediate-fires, immediate-state, immediate-rule, immediate-source, immediate-ends}
@@ -189,3 +190,12 @@ six-low = (λ l. omega arith, (λ l. omega arith, (λ l. omega arith, (λ l. ome
 pub six-full : (Fires feed six × AtOnce feed six) × (heldAt (replayAnswer feed six .run) 0 ≡ 10)
 unfolding factoryAnswer replayAnswer
 six-full = ((refl, λ g k i e. firing-at LowAfter g k i (subst (Firings LowAfter) e six-low)), refl)
+
+-- a chain whose source's tokens come one by one, and are taken by 65521, and those of the node between by 65519
+abbrev pub slow : Chain
+slow = made 1 (queue 1 65521 65521 0 ∷ queue 1 65519 65519 0 ∷ []) (1 ∷ 1 ∷ [])
+
+-- it is accepted, and its sink's cycle has more source firings than an immediate run may have: of its rate no two runs tell, and exact-rate does
+pub slow-cycle : Accepts slow × ((line slow 1 .x ≡ 1) × (1000000 < line slow 1 .y / slow .period))
+unfolding analyseAnswer
+slow-cycle = (refl, (refl, omega arith))

@@ -14,7 +14,6 @@
 --                            every result zero, written out; the slots past n zero (Zeros)
 --   read-, factory-, analyse-, checked-, fresh-, immediate-, deadline-, deadline-run-empty
 --                            what a refused call makes itself is zero
---   Started c s              what a fresh start is, field by field
 --   read-, factory-, analysis-, fresh-, immediate-, deadline-run-slots
 --                            and so are the slots past n of what a call makes that is not refused
 --   writes-nothing           a refused call leaves every lent byte
@@ -27,7 +26,7 @@
 use mathlib.Core.Path.{_≡_, refl, sym, ap, subst, _∙_}
 use mathlib.Core.Logic.{_≢_}
 use mathlib.Core.List.{List, [], _∷_}
-use Prim.Native.Nat.{ℕ, suc, _<_}
+use Prim.Native.Nat.{ℕ, suc}
 use native.Mathlib.Omega.{arith}
 use lib.Dec.{ltb, leb}
 use lib.ListN.{length, replicate, length-replicate}
@@ -36,10 +35,10 @@ use Rattle.ardenquill.specs.Records.{Refusal, Chain, LengthAnswer, Run}
 use Rattle.ardenquill.specs.Chains as chains
 use Rattle.ardenquill.specs.Chains.{refused, Numbered, only-test, test-alone, trimmed, rowOf, workOf, factoryChains, trimmed-factory, factoryCheck, factoryRefusal, factoryAnswer}
 use Rattle.ardenquill.specs.Files.{readChecks, read-numbered, readRefusal, readAnswer, trimmed-read, packed, roomCheck, room-only, writeChecks, write-numbered, writeRefusal, Output}
-use Rattle.ardenquill.specs.Analyses.{start, sized, sizeOf, analysisOf, analyseChecks, analyse-numbered, analyseRefusal, analyseAnswer, analyse-accepts, runChecks, run-numbered, runRefusal, runAnswer}
+use Rattle.ardenquill.specs.Analyses.{start, sized, sizeOf, analysisOf, analyseChecks, analyse-numbered, analyseRefusal, analyseAnswer, runChecks, run-numbered, runRefusal, runAnswer}
 use Rattle.ardenquill.specs.Reports.{refusalText, reportText, reportChecks, report-numbered, reportRefusal}
 use Rattle.ardenquill.specs.Runs as runs
-use Rattle.ardenquill.specs.Runs.{heldAt, zeros, freshRun, freshAnswer, fresh-held, fresh-state, fireChecks, fire-numbered, fireRefusal, fireAnswer, fresh-refused, fire-refused, AlikeChains, AlikeRuns, KeptPast, analysis-alike, run-analysis-alike, fresh-alike, fire-alike}
+use Rattle.ardenquill.specs.Runs.{zeros, freshRun, freshAnswer, fresh-state, fireChecks, fire-numbered, fireRefusal, fireAnswer, fresh-refused, fire-refused, AlikeChains, AlikeRuns, KeptPast, analysis-alike, run-analysis-alike, fresh-alike, fire-alike}
 use Rattle.ardenquill.specs.Immediate.{immediateChecks, immediate-numbered, immediateRefusal, immediateAnswer, immediate-refused, immediate-alike}
 use Rattle.ardenquill.specs.Deadlines.{answeredDue, deadlineChecks, deadline-numbered, deadlineRefusal, deadlineAnswer, deadline-refused}
 use Rattle.ardenquill.specs.Flat.{coded}
@@ -175,23 +174,10 @@ pub analysis-slots : (c : Chain) → analyseAnswer c .number ≡ 0 → (analyseA
 unfolding analyseAnswer sized analysisOf
 analysis-slots c z = simp (eq-eqb _ _ z) (refl, slots-zero (sizeOf c) zeroLine (c .n))
 
--- of a fresh start, in which nothing has fired, no work is done, and each queue holds what it starts with
-pub record Started (c : Chain) (s : Run) : Type 0 where
-  pub clock : s .clock ≡ 0
-  pub counts : s .counts ≡ replicate 17 0
-  pub held : (j : ℕ) → j < c .n → heldAt s j ≡ start (rowOf c j)
-  pub done : s .done ≡ replicate 16 0
-  pub slots : RunSlots (c .n) s
-
-pub fresh-slots : (c : Chain) → freshAnswer c .number ≡ 0 → Started c (freshAnswer c .run)
+-- of a fresh start (and what else that is, Demand2: fresh-is)
+pub fresh-slots : (c : Chain) → freshAnswer c .number ≡ 0 → RunSlots (c .n) (freshAnswer c .run)
 unfolding freshRun freshAnswer runs.answered
-fresh-slots c z = rw (fresh-state c z) (record {
-  clock = refl;
-  counts = refl;
-  held = fresh-held (analyse-accepts c .0 z .chain);
-  done = refl;
-  slots = record { counts = zero-slots 17 (suc (c .n)); held = slots-zero (λ i. start (rowOf c i)) 0 (c .n); done = zero-slots 16 (c .n) };
-})
+fresh-slots c z = rw (fresh-state c z) (record { counts = zero-slots 17 (suc (c .n)); held = slots-zero (λ i. start (rowOf c i)) 0 (c .n); done = zero-slots 16 (c .n) })
 
 -- of a state that has the slots past n of one of zeros
 past-zero : {n : ℕ} {s : Run} → KeptSlots n zeroRun s → RunSlots n s

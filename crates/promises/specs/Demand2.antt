@@ -19,14 +19,14 @@
 --                            "deadlines"
 --   May c s i, Passes c s j, AllSlots s
 --                            9, 11 and 12 let N_i fire in s (Runs); s passes 17 at queue j, and has all its slots (Replay)
---   fire-when, FiredOnce, fire-does
---                            "manual firing"
+--   fresh-when, fresh-is, fire-when, FiredOnce, fire-does
+--                            "manual firing": a fresh start and one firing, accepted when and what it leaves
 --   Runs c k, Fires c h, NearestFirst c h, Low c s, Ample c j
 --                            the immediate run is not refused; a permitted order; by the rule; only the source may fire; a capacity that is not below the
 --                            minimum (Replay)
 --   schedule c k, F c k i    the firings of the immediate run, in order; how often N_i fires in it (Immediate)
---   immediate-when, immediate-fires, -state, -rule, -source, -ends, -counts, -exact, -rest
---                            "both kinds of run", the immediate one: accepted when; its firings, and that they are by the rule; its exact counts
+--   immediate-when, immediate-fires, -state, -rule, -source, -ends, -counted, -counts, -exact, -rest
+--                            "both kinds of run", the immediate one: accepted when; its firings, and that they are by the rule; its counts, which are theirs, exactly
 --   DeadlineRuns c T, ticksFrom c T s
 --                            the deadline run is not refused; T ticks as their calls answer them (ByTicks)
 --   ranAs x                  the answer of a call that no check refused and that ends with x, an outcome with the state that is left (Ticks)
@@ -70,10 +70,10 @@ use Rattle.ardenquill.specs.Chains.{Silents, tab, rowOf, workOf, trimmed, Sound
 use Rattle.ardenquill.specs.Files.{countOf, queuesAt, nodesAt, readAnswer, packedLength, packed, writeRefusal, Output, Bytes, packedFile, read-of-write, write-of-read, packed-again, chainOf, AcceptedFile, read-accepts, write-accepts}
 use Rattle.ardenquill.specs.Analyses.{ceil, gcd, gcd-pos-left, residue, residue-000, residue-004, naming, common, nextX, nextY, xOf, yOf, y-multiple, busyIn, runChecks, analysisOf, analyseAnswer, Accepted, capacity-minimum, capacity-written, margin-unwritten, margin-balance}
 use Rattle.ardenquill.specs.Runs as runs
-use Rattle.ardenquill.specs.Runs.{countAt, heldAt, freshRun, fired, May, stateCheck, state-silent, Whole, Firing, firing-is, fireAnswer, fire-accepts, fire-accepted, count-fired, count-other, held-output, held-other}
-use Rattle.ardenquill.specs.Histories.{times}
+use Rattle.ardenquill.specs.Runs.{countAt, heldAt, freshRun, freshAnswer, fresh-empty, fresh-state, fired, May, stateCheck, state-silent, Whole, Firing, firing-is, fireAnswer, fire-accepts, fire-accepted, count-fired, count-other, held-output, held-other}
+use Rattle.ardenquill.specs.Histories.{times, counted}
 use Rattle.ardenquill.specs.Immediate as immediate
-use Rattle.ardenquill.specs.Immediate.{F, fires, fires-below, fires-from, schedule, Follows, rule, immediateAnswer, immediate-accepts, permitted, counts-are-F}
+use Rattle.ardenquill.specs.Immediate.{F, schedule, Follows, rule, immediateAnswer, immediate-accepts, permitted, counts-are-F}
 use Rattle.ardenquill.specs.Deadlines.{earlier, earlier-some, deadline, index, answeredDue, deadlineAnswer, deadline-accepts, deadline-due}
 use Rattle.ardenquill.specs.Ticks as ticks
 use Rattle.ardenquill.specs.Ticks.{kindOf, tickOf, atOf, outcomeOf, tickAnswer, deadlineRunAnswer, ranAs, left, tick-accepts, tick-9, deadline-run-accepts, TickOnce, once-counts, once-keeps, Spills, Lacks, OneTick, one-overflows, one-lacks, one-cleans, one-stays, one-leaves, TicksTo, answer-one, answer-exactly, Ends, HowMany, total, Waits, Rising, trace, entriesOf, FiredAt, source-entries, entries-when, entries-apart, entries-first, entries-rise}
@@ -81,9 +81,11 @@ use Rattle.ardenquill.specs.Flat.{coded, flat}
 use Rattle.ardenquill.specs.Records.{Refusal, Chain, ChainAnswer, LengthAnswer, Analysis, Run, Outcome, Clean, Ticked, TickAnswer}
 use Rattle.ardenquill.specs.Reports.{reportText, reportRefusal, report-accepts}
 use Rattle.promises.specs.Replay.{pOf, τOf, cOf, Accepts, line, rateX, rateY, replayAnswer, Fires, AllSlots, Passes, Ample, Low, NearestFirst, Runs, accepts-is, fires-is}
-use Rattle.promises.specs.Laws.{report-is, x-is, y-is, by-is, capacity-is, rate-x-is, rate-y-is, last, minimum-by, minimum-as, largest-multiple, may-run-is, run-quiet, silents-append, whole, passes-is, index-down, taken, state-is, moment, follows-at, parts, sound, ends-in, keeps, fed-by, minimum-is, margin-is, output-silent, coded-overflowed, coded-undated, coded-clean}
+use Rattle.promises.specs.Laws.{report-is, x-is, y-is, by-is, capacity-is, rate-x-is, rate-y-is, last, minimum-by, minimum-as, largest-multiple, may-run-is, run-quiet, silents-append, whole, passes-is, index-down, taken, state-is, moment, parts, sound, ends-in, keeps, minimum-is, margin-is, output-silent, coded-overflowed, coded-undated, coded-clean, one-firing}
 use Rattle.promises.specs.ByTicks.{DeadlineRuns, ticksFrom, ticks-are-run}
 use Rattle.promises.specs.Outcomes.{Says, Cleanly, OverflowedAt, UndatedAt, cleanly-is, overflowed-is, undated-is, says-tick}
+use Rattle.promises.specs.ByCounts.{rule-exhausted, exact-count}
+use Rattle.promises.specs.Zeros.{zeroRun}
 use Rattle.promises.specs.Demand1.{tick-stays, deadline-run-empty}
 
 -- 01's "a chain it doesn't refuse is accepted": its fields in their ranges, no consume above its threshold, every rate within the limit, and no overload
@@ -225,6 +227,16 @@ deadline-next c i k asked =
     let too = deadline-accepts c i (indexBefore c i k) .1 (p .0, ((omega (arith, p .1 .0 .0), rw (← same) (earlier-some (rowOf c i) k)), λ j l. rw (← same, ← index-down c i k j l) (p .1 .1 j (omega arith)))) in
     (too, deadline-due c (suc i) k asked ∙ ap (deadline c i) same ∙ sym (deadline-due c i (indexBefore c i k) too))
 
+-- 01's "A fresh start begins a new history": it is accepted exactly when the chain is
+pub fresh-when : (c : Chain) → (freshAnswer c .number ≡ 0) ↔ Accepts c
+unfolding freshAnswer runs.answered analyseAnswer
+fresh-when c = Iff·rfl
+
+-- and then no node has fired, "every queue starts empty", no work is done and the clock is 0
+pub fresh-is : (c : Chain) → Accepts c → freshAnswer c .run ≡ zeroRun
+unfolding analyseAnswer
+fresh-is c ok = fresh-state c ok ∙ sym (fresh-empty c)
+
 -- 01's "finished firing adds p to the output queue, if any, then removes c from the input queue, if any", and "changes only the fired node's count and the
 -- contents of its queues, not clock or work done"; t is the state after it
 pub record FiredOnce (c : Chain) (s : Run) (i : ℕ) (t : Run) : Type 0 where
@@ -280,7 +292,7 @@ module _ (c : Chain) (k : ℕ) (ran : Runs c k) where
 
   -- they are by 01's rule: "No source firing happens while another node may fire, and among those that may, the one nearest the sink goes first"
   pub immediate-rule : NearestFirst c (schedule c k)
-  immediate-rule g l i e = rw (moment c (schedule c k) immediate-fires g _ e) (follows-at c (freshRun c) g i l (subst (Follows c (freshRun c)) e (rule (sound c k ran) k)))
+  immediate-rule g l i e = rw (moment c (schedule c k) immediate-fires g _ e) (one-firing c _ (freshRun c) g i l (subst (Follows c (freshRun c)) e (rule (sound c k ran) k)))
 
   -- "a run of k source firings"
   pub immediate-source : times 0 (schedule c k) ≡ k
@@ -290,6 +302,10 @@ module _ (c : Chain) (k : ℕ) (ran : Runs c k) where
   pub immediate-ends : Low c (immediateAnswer c k .run)
   immediate-ends = rw (ends-in c k ran) (λ j l. immediate.ends (sound c k ran) k j (omega arith) l)
 
+  -- a count is how often the node stands among them
+  pub immediate-counted : (i : ℕ) → i ≤ c .n → countAt (immediateAnswer c k .run) i ≡ times i (schedule c k)
+  immediate-counted i l = rw (ends-in c k ran) (counted c (parts c k ran .0 .0) (schedule c k) i l)
+
   -- its counts are F
   pub immediate-counts : (i : ℕ) → i ≤ c .n → countAt (immediateAnswer c k .run) i ≡ F c k i
   immediate-counts i l = rw (ends-in c k ran) (counts-are-F (sound c k ran) k i l)
@@ -297,13 +313,10 @@ module _ (c : Chain) (k : ℕ) (ran : Runs c k) where
   -- "F_0 = k; F_(i+1) is 0 while p×F_i is below τ, else (p×F_i − τ)/c rounded down, plus 1 (004, Lemma 5.1)"
   pub immediate-exact : let N = countAt (immediateAnswer c k .run) in
       (N 0 ≡ k) × ((i : ℕ) → i < c .n → (pOf c i * N i < τOf c i → N (suc i) ≡ 0) × (τOf c i ≤ pOf c i * N i → N (suc i) ≡ (pOf c i * N i - τOf c i) / cOf c i + 1))
-  unfolding F
-  immediate-exact = (
-    immediate-counts 0 (omega arith),
-    λ i l.
-        let by = immediate-counts (suc i) l ∙ fed-by c k i ∙ ap (λ (m : ℕ). fires (τOf c i) (cOf c i) (pOf c i * m)) (sym (immediate-counts i (omega arith))) in
-        (λ b. by ∙ fires-below _ _ _ b, λ b. by ∙ fires-from _ _ _ b),
-  )
+  immediate-exact =
+      let ok : Accepts c = accepts-is c .1 (parts c k ran .0 .0) in
+      let exact = exact-count c ok (rule-exhausted c ok k) in
+      (immediate-counted 0 (omega arith) ∙ exact .0, λ i l. rw (immediate-counted i (omega arith), immediate-counted (suc i) l) (exact .1 i l))
 
   -- "clock and work done stay 0"
   pub immediate-rest : (immediateAnswer c k .run .clock ≡ 0) × (immediateAnswer c k .run .done ≡ replicate 16 0)
@@ -327,7 +340,7 @@ module _ (c : Chain) (T : ℕ) (ran : DeadlineRuns c T) where
   deadline-run-is = ticks.run-answers c T ran
 
   -- which is what T ticks, one after the other, answer
-  pub by-ticks : deadlineRunAnswer c T ≡ ticksFrom c T (runs.freshAnswer c .run)
+  pub by-ticks : deadlineRunAnswer c T ≡ ticksFrom c T (freshAnswer c .run)
   by-ticks = ticks-are-run c T ran
 
   -- 13's "first instant when", and an overflow's: it ends at t so exactly when the run of t ticks is clean and the tick from the state that it leaves says so

@@ -7,12 +7,14 @@
 --                            the residue of a queue, its minimum by it and by what else it is, and that it is a largest multiple
 --   may-run-is, run-quiet    two ways to say of a chain that it may run; and then none of the checks of a run speaks
 --   silents-append           nor of two lists of checks in a row where none of either does
---   whole, passes-is         two ways to say of a state that it has all slots, and that it passes 17
+--   whole, all-slots, passes-is
+--                            two ways to say of a state that it has all slots, and that it passes 17
 --   index-down               an index on the way down to the source
 --   taken, fed-by            what a firing takes, and a count from the one before it
---   prompt, follows-at       an order firing by firing, and a firing of it
---   accepted, permits, state-is, moment, prompts
---                            of a permitted order: its chain, its firings, its state, the state at each moment, and that it is prompt
+--   each-firing, one-firing  what holds of each firing of an order, from what holds of one of them, and back
+--   running-after            a state that passes 17 still does after permitted firings
+--   accepted, permits, state-is, moment, running-at, prompts
+--                            of a permitted order: its chain, its firings, its state, the state at each moment, that this passes 17, and that the order is prompt
 --   quiet, parts, sound, ends-in, keeps
 --                            of an immediate run: its checks, what they leave to be known, and its state
 --   coded-overflowed, -undated, -clean
@@ -32,15 +34,15 @@ use Rattle.ardenquill.specs.Chains.{row, rowOf, first, Silent, Silents, first-s
 use Rattle.ardenquill.specs.Files.{bytesOf, packedLength, header, rows, nodes, packed, roomCheck, writeRefusal, Output}
 use Rattle.ardenquill.specs.Analyses as sizes
 use Rattle.ardenquill.specs.Analyses.{gcd, gcd-pos-left, residue, Largest, residue-largest, xOf, yOf, source-rate, minimumOf, namingOf, capacityOf, marginOf, sizeBy, sizeOf, noSize, size-at, analysisOf, analyseAnswer, Accepted, analysed, Enough, runChecks, runRefusal, run-accepts}
-use Rattle.ardenquill.specs.Runs.{heldAt, freshRun, answered, fired, StateSound, Whole, Firing, held-input, over-enough, AlikeChains, flat-alike, record-alike}
-use Rattle.ardenquill.specs.Histories.{after, Permitted, Prompt, EachFiring}
+use Rattle.ardenquill.specs.Runs.{heldAt, freshRun, answered, fired, StateSound, Whole, Firing, firing-is, held-input, over-enough, AlikeChains, flat-alike, record-alike}
+use Rattle.ardenquill.specs.Histories.{after, Permitted, Prompt, EachFiring, each-before}
 use Rattle.ardenquill.specs.Immediate as immediate
-use Rattle.ardenquill.specs.Immediate.{F, fires, Reached, schedule, Next, Follows, most, immediateRefusal, immediateAnswer, immediate-accepts, immediate-ran}
+use Rattle.ardenquill.specs.Immediate.{F, fires, Reached, schedule, most, immediateRefusal, immediateAnswer, immediate-accepts, immediate-ran}
 use Rattle.ardenquill.specs.Deadlines.{earlier, index}
-use Rattle.ardenquill.specs.Ticks.{kindOf, tickOf, atOf}
+use Rattle.ardenquill.specs.Ticks.{kindOf, tickOf, atOf, Running, fired-running, fresh-running}
 use Rattle.ardenquill.specs.Records.{Refusal, Queue, Chain, LengthAnswer, QueueSize, Analysis, AnalysisAnswer, Run, Outcome, Clean, Overflowed, NoDeadline}
 use Rattle.promises.specs.Outcomes.{Cleanly, OverflowedAt, UndatedAt}
-use Rattle.promises.specs.Replay.{pOf, τOf, cOf, Accepts, AllSlots, Passes, Ample, line, rateX, rateY, replayAnswer, Fires, LowAt, AtOnce, Runs, accepts-is, fires-is, fires-state, fires-before}
+use Rattle.promises.specs.Replay.{pOf, τOf, cOf, Accepts, AllSlots, Passes, Ample, line, rateX, rateY, replayAnswer, Fires, AtOnce, Runs, accepts-is, fires-is, fires-state, fires-before}
 
 -- the line of a queue of an accepted chain
 module _ (c : Chain) (a : Accepted c) where
@@ -123,6 +125,9 @@ silents-append (r ∷ rs) qs a b = (a .0, silents-append rs qs (a .1) b)
 pub whole : {s : Run} → AllSlots s → Whole s
 whole k = record { counts = k .counts; held = k .held; done = k .done }
 
+pub all-slots : {s : Run} → Whole s → AllSlots s
+all-slots k = record { counts = k .counts; held = k .held; done = k .done }
+
 -- and that it passes 17
 pub passes-is : (c : Chain) (s : Run) → Accepts c → StateSound c s ↔ ((j : ℕ) → j < c .n → Passes c s j)
 passes-is c s ok = (
@@ -144,18 +149,25 @@ pub fed-by : (c : Chain) (k i : ℕ) → F c k (suc i) ≡ fires (τOf c i) (cOf
 unfolding F
 fed-by c k i = ap (fires (τOf c i) (cOf c i)) (zero-add _)
 
--- an order that fires each node only when the one that it feeds is below threshold, firing by firing
-prompt : (c : Chain) (s : Run) (h : List ℕ)
-    → ((before later : List ℕ) (i : ℕ) → h ≡ before ++ (i ∷ later) → LowAt c (after c s before) i) → Prompt c s h
-unfolding EachFiring after
-prompt c s [] low = tt
-prompt c s (i ∷ h) low = (low [] h i refl, prompt c (fired c s i) h (λ g k m e. low (i ∷ g) k m (ap (λ (t : List ℕ). i ∷ t) e)))
+-- what holds of each firing, said by what was fired before it
+module _ (c : Chain) (P : Run → ℕ → Type 0) where
+  -- of all of them, from one by one
+  pub each-firing : (s : Run) (h : List ℕ) → ((before later : List ℕ) (i : ℕ) → h ≡ before ++ (i ∷ later) → P (after c s before) i) → EachFiring c P s h
+  unfolding EachFiring after
+  each-firing s [] one = tt
+  each-firing s (i ∷ h) one = (one [] h i refl, each-firing (fired c s i) h (λ g k m e. one (i ∷ g) k m (ap (λ (t : List ℕ). i ∷ t) e)))
 
--- a firing of an order by the rule
-pub follows-at : (c : Chain) (s : Run) (g : List ℕ) (i : ℕ) (k : List ℕ) → Follows c s (g ++ (i ∷ k)) → Next c (after c s g) i
+  -- and of one of them
+  pub one-firing : (s : Run) (g : List ℕ) (i : ℕ) (k : List ℕ) → EachFiring c P s (g ++ (i ∷ k)) → P (after c s g) i
+  unfolding EachFiring after
+  one-firing s [] i k p = p .0
+  one-firing s (m ∷ g) i k p = one-firing (fired c s m) g i k (p .1)
+
+-- a state that passes 17 still does after firings that manual firing permits
+pub running-after : {c : Chain} {s : Run} → Running c s → (h : List ℕ) → Permitted c s h → Running c (after c s h)
 unfolding EachFiring after
-follows-at c s [] i k p = p .0
-follows-at c s (m ∷ g) i k p = follows-at c (fired c s m) g i k (p .1)
+running-after r [] ok = r
+running-after {c} {s} r (i ∷ h) ok = let f : Firing c s i = firing-is c s i .0 (ok .0) in running-after (fired-running r i (f .may .over) (f .may .room)) h (ok .1)
 
 -- a permitted order
 module _ (c : Chain) (h : List ℕ) (ok : Fires c h) where
@@ -175,9 +187,13 @@ module _ (c : Chain) (h : List ℕ) (ok : Fires c h) where
   pub moment : (g k : List ℕ) → h ≡ g ++ k → replayAnswer c g .run ≡ after c (freshRun c) g
   moment g k e = fires-state c g (fires-before c g k (subst (Fires c) e ok))
 
+  -- which passes 17, with all its slots
+  pub running-at : (g k : List ℕ) → h ≡ g ++ k → Running c (replayAnswer c g .run)
+  running-at g k e = rw (moment g k e) (running-after (fresh-running accepted) g (each-before c _ (freshRun c) g k (subst (Permitted c (freshRun c)) e permits)))
+
   -- nodes that fire at once, as a history has it
   pub prompts : AtOnce c h → Prompt c (freshRun c) h
-  prompts low = prompt c (freshRun c) h (λ g k i e. rw (moment g (i ∷ k) e) at (low g k i e))
+  prompts low = each-firing c _ (freshRun c) h (λ g k i e. rw (moment g (i ∷ k) e) at (low g k i e))
 
 -- the immediate run of k source firings
 module _ (c : Chain) (k : ℕ) (ran : Runs c k) where

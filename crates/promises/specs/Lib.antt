@@ -4,11 +4,14 @@ pub mod Outcomes
 pub mod Zeros
 pub mod Laws
 pub mod ByTicks
+pub mod ByCounts
 pub mod Demand1
 pub mod Demand2
 pub mod TickInNumbers
+pub mod HandedOut
 pub mod Demand3
 pub mod Beyond
+pub mod Mixed
 pub mod Replayed
 pub mod Ran
 pub mod ReadBack

@@ -11,16 +11,18 @@
 --                            and that some node is
 --   tick-works               in a clean tick it works one tick, and nobody else; where no node is over threshold nobody does
 --   tick-passes              a clean tick leaves a state that passes 17; with tick-works, tick-clock, source-fires and tick-kept that is every slot of it
+--   Finishes c s t j         N_(j+1) is the one that worked, and it was the last tick of its firing
+--   node-fires, node-rests   exactly then its count grows, by one
 use mathlib.Core.Path.{_≡_, refl, sym, ap, subst, _∙_}
 use mathlib.Core.Logic.{_↔_, _≢_, _⊎_, inl, inr, ⊎-elim, by-cases}
 use mathlib.Core.List.{[], _∷_, _++_}
-use Prim.Native.Nat.{ℕ, zero, suc, _+_, _≤_, _<_, _∣_}
-use native.Mathlib.Nat.{zero-lt-suc}
+use Prim.Native.Nat.{ℕ, zero, suc, _+_, _*_, _≤_, _<_, _∣_}
+use native.Mathlib.Nat.{zero-lt-suc, mul-le-mul-left}
 use native.Mathlib.Decide.{ℕ-discrete, decLt, decDvd}
 use native.Mathlib.Omega.{arith}
-use Rattle.ardenquill.specs.Chains.{Silent, Silents}
+use Rattle.ardenquill.specs.Chains.{workOf, Silent, Silents}
 use Rattle.ardenquill.specs.Analyses.{Accepted, runChecks}
-use Rattle.ardenquill.specs.Runs.{countAt, heldAt, Over, StateSound}
+use Rattle.ardenquill.specs.Runs.{countAt, heldAt, doneAt, Over, StateSound}
 use Rattle.ardenquill.specs.Deadlines.{askCheck, ask-silent, indexCheck, index, index-silent, index-only, index-exact, deadline, answeredDue, deadlineAnswer, deadline-13}
 use Rattle.ardenquill.specs.Ticks.{outcomeOf, tickAnswer, Ticking, ticking-is, tick-ran, tick-step, SourceOnce, TickOnce, Lacks, workedBy, source-work, other-work, own-work}
 use Rattle.ardenquill.specs.Records.{Refusal, Chain, DeadlineAnswer, Run, Outcome, Clean, Overflowed, NoDeadline, TickAnswer}
@@ -61,6 +63,14 @@ pub record Worked (c : Chain) (s t : Run) : Type 0 where
   pub queue : ℕ
   pub is : WorksAsked c s t queue
 
+-- N_(j+1) is that, and with this tick has worked the e ticks of a firing
+abbrev pub Finishes : Chain → Run → Run → ℕ → Type 0
+Finishes c s t j = (doneAt s j + 1 ≡ workOf c j) × WorksAsked c s t j
+
+-- then its count is one more, and else it is the same
+abbrev CountsSo : Chain → Run → Run → ℕ → Type 0
+CountsSo c s t j = (Finishes c s t j × (countAt t (suc j) ≡ countAt s (suc j) + 1)) ⊎ ((Finishes c s t j → ⊥) × (countAt t (suc j) ≡ countAt s (suc j)))
+
 -- after the source's step
 module _ {c : Chain} {s u : Run} (o : SourceOnce c s u) where
   over-out : (j : ℕ) → τOf c j ≤ heldAt u j → OverThen c s j
@@ -98,6 +108,12 @@ module _ (c : Chain) (may : Accepts c × ((j : ℕ) → j < c .n → Ample c j))
       let f = index-exact c i k (indexCheck c i k .place) .0 (λ a. record { number = e a; place = indexCheck c i k .place }) in
       let quiet : Silents (runChecks c ++ (askCheck c i k ∷ [])) = silents-append (runChecks c) (askCheck c i k ∷ []) (run-quiet c may) (ask-silent c i k .1 (node, some), tt) in
       ap (λ (r : Refusal). r .number) (deadline-13 c i k (indexCheck c i k .place) .1 (quiet, f))
+
+-- a number of e's and less than e beside them is such in one way only
+parted : (e N d M b : ℕ) → d < e → b < e → e * N + d ≡ e * M + b → N ≡ M
+parted e N d M b l m h = by-cases (decLt N M)
+    (λ f. absurd (omega (arith, mul-le-mul-left e f)))
+    (λ f. by-cases (decLt M N) (λ g. absurd (omega (arith, mul-le-mul-left e g))) (λ g. omega arith))
 
 module _ (c : Chain) (s : Run) (slots : AllSlots s) (ok : tickAnswer c s .number ≡ 0) where
   -- its chain may run
@@ -198,3 +214,32 @@ module _ (c : Chain) (s : Run) (slots : AllSlots s) (ok : tickAnswer c s .number
       let ran = tick-ran c s ok in
       let step = tick-step (record { chain = k .chain; whole = whole slots; state = k .state }) (ap (λ (a : TickAnswer). a .outcome) (sym ran) ∙ cleanly-is (tickAnswer c s .outcome) .0 z) in
       passes-is c (tickAnswer c s .run) (may .0) .0 (subst (λ (a : TickAnswer). StateSound c (a .run)) (sym ran) (step .running .state))
+
+  module _ (z : Cleanly (tickAnswer c s .outcome)) (j : ℕ) (l : j < c .n) where
+    -- a clean tick leaves such a count, by what the node has worked before and after it
+    counts-so : CountsSo c s (tickAnswer c s .run) j
+    counts-so = ⊎-elim (λ k. by-cases (ℕ-discrete j (k .queue)) (λ e. own (subst (WorksAsked c s t) (sym e) (k .is))) (λ ne. none (k .is .others j ne))) (λ k. none (k .1 j)) (tick-works z)
+      where
+        t : Run
+        t = tickAnswer c s .run
+
+        was : doneAt s j < workOf c j
+        was = tick-when c s .0 ok .1 .0 j l .work
+
+        is : doneAt t j < workOf c j
+        is = tick-passes z j l .work
+
+        none : workedBy c t j ≡ workedBy c s j → CountsSo c s t j
+        none same = inr (λ f. omega (arith, same, f .1 .works), parted (workOf c j) _ _ _ _ is was same)
+
+        own : WorksAsked c s t j → CountsSo c s t j
+        own k = by-cases (ℕ-discrete (doneAt s j + 1) (workOf c j))
+            (λ all. inl ((all, k), parted (workOf c j) (countAt t (suc j)) (doneAt t j) (countAt s (suc j) + 1) 0 is (omega arith) (omega (arith, k .works, all))))
+            (λ n. inr (λ f. n (f .0), parted (workOf c j) (countAt t (suc j)) (doneAt t j) (countAt s (suc j)) (doneAt s j + 1) is (omega (arith, n, was)) (omega (arith, k .works))))
+
+    -- "the effect at t+1 of a firing then finished": a clean tick adds one to N_(j+1)'s count exactly when that works the last tick of a firing, and else leaves it
+    pub node-fires : (countAt (tickAnswer c s .run) (suc j) ≡ countAt s (suc j) + 1) ↔ Finishes c s (tickAnswer c s .run) j
+    node-fires = (λ e. ⊎-elim (λ k. k .0) (λ k. absurd (omega (arith, k .1, e))) counts-so, λ f. ⊎-elim (λ k. k .1) (λ k. absurd (k .0 f)) counts-so)
+
+    pub node-rests : (countAt (tickAnswer c s .run) (suc j) ≡ countAt s (suc j)) ↔ (Finishes c s (tickAnswer c s .run) j → ⊥)
+    node-rests = (λ e f. omega (arith, e, node-fires .1 f), λ n. ⊎-elim (λ k. absurd (n (k .0))) (λ k. k .1) counts-so)

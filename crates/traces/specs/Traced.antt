@@ -1,4 +1,5 @@
 -- The firings of a deadline run are a permitted history (01, Firing, and demand 3).
+--   replays-none, -one, -then  no firing, a firing that may be, and one trace after the other
 --   tick-traced, traced        one tick, and so many of them
 --   run-traced                 a deadline run from a fresh start
 --   run-counted, run-balance, run-naming
@@ -45,17 +46,17 @@ resting-may (suc j) m = record { node = m .node; countable = m .countable; over 
 
 module _ (c : Chain) (s : Run) where
   -- no firing, between states with the same counts and contents
-  replays-none : (t : Run) → s .counts ≡ t .counts → s .held ≡ t .held → Replays c s [] t
+  pub replays-none : (t : Run) → s .counts ≡ t .counts → s .held ≡ t .held → Replays c s [] t
   unfolding EachFiring after
   replays-none t a h = (tt, λ i. record { clock = 0; counts = a i; held = h i; done = replicate 16 0 })
 
   -- one firing, which may be
-  replays-one : Running c s → (t i : ℕ) → May c s i → Replays c s ((t, i) ∷ []) (fired c s i)
+  pub replays-one : Running c s → (t i : ℕ) → May c s i → Replays c s ((t, i) ∷ []) (fired c s i)
   unfolding EachFiring after fired
   replays-one r t i m = ((firing-is c (resting s) i .1 (record { chain = r .chain; state = resting-sound r; may = resting-may i m }), tt), refl)
 
   -- one trace and then another
-  replays-then : (t u : Run) (g h : List Entry) → Replays c s g t → Replays c t h u → Replays c s (g ++ h) u
+  pub replays-then : (t u : Run) (g h : List Entry) → Replays c s g t → Replays c t h u → Replays c s (g ++ h) u
   replays-then t u g h a b =
       subst (λ (x : List ℕ). Permitted c (resting s) x × (after c (resting s) x ≡ resting u)) (sym (map-append (λ (e : Entry). e .1) g h)) (
         each-append c _ (resting s) (nodes g) (nodes h) (a .0) (subst (λ (x : Run). Permitted c x (nodes h)) (sym (a .1)) (b .0)),
