@@ -6,7 +6,7 @@
 --   last, minimum-by, minimum-as, largest-multiple
 --                            the residue of a queue, its minimum by it and by what else it is, and that it is a largest multiple
 --   may-run-is, run-quiet    two ways to say of a chain that it may run; and then none of the checks of a run speaks
---   silents-append           nor of two lists of checks in a row where none of either does
+--   silents-append, -parts   nor of two lists of checks in a row where none of either does, and only there
 --   whole, passes-is         two ways to say of a state that it has all slots, and that it passes 17
 --   index-down               an index on the way down to the source
 --   taken, fed-by            what a firing takes, and a count from the one before it
@@ -117,6 +117,11 @@ pub silents-append : (rs qs : List Refusal) → Silents rs → Silents qs → Si
 unfolding Silents
 silents-append [] qs a b = b
 silents-append (r ∷ rs) qs a b = (a .0, silents-append rs qs (a .1) b)
+
+pub silents-parts : (rs qs : List Refusal) → Silents (rs ++ qs) → Silents rs × Silents qs
+unfolding Silents
+silents-parts [] qs a = (tt, a)
+silents-parts (r ∷ rs) qs a = let p = silents-parts rs qs (a .1) in ((a .0, p .0), p .1)
 
 -- two ways to say of a state that it has all slots
 pub whole : {s : Run} → AllSlots s → Whole s

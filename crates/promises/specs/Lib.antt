@@ -3,6 +3,7 @@ pub mod Order
 pub mod Laws
 pub mod ByTicks
 pub mod Demand1
+pub mod RatesInNumbers
 pub mod Demand2
 pub mod TickInNumbers
 pub mod Demand3
