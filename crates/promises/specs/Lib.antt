@@ -6,6 +6,7 @@ pub mod Demand1
 pub mod RatesInNumbers
 pub mod Demand2
 pub mod TickInNumbers
+pub mod PlacesInNumbers
 pub mod Demand3
 pub mod Beyond
 pub mod Replayed

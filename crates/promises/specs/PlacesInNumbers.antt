@@ -1,0 +1,141 @@
+-- Demand 2, the refusals 8, 9, 11, 12, 13, 14 and 17 with their places, of each call that answers them, by the numbers of its chain and its state: of the words by which
+-- they are defined none stands in these laws. 6 and 7 are in RatesInNumbers, 9 and 13 of one tick in Demand2 and TickInNumbers.
+--   c, s, i, j, k, T, L      a chain, a run state, a node, a queue (N_j feeds it and N_(j+1) empties it), a number or an index, ticks, a place
+--   Accepts c, line c j      the analysis does not refuse c; what it answers of queue j: b is minimum, the capacity in force capacity (Replay)
+--   LowestOf Reason L        L has the reason, and none before it has (Order)
+--   MayRun c, PassesAll c s  none of 2 to 8 has a reason to refuse c; 17 has none at any queue of s (Ample, Passes: Replay)
+--   immediate-, deadline-, tick-, deadline-run-begins
+--                            what is answered of a chain that is checked for a run every run and deadline question answers, too
+--   TooSmall c j, checked-eight
+--                            8 at queue j; and when it is answered
+--   analyse-, fresh-, fire-, write-, report-never-8
+--                            "runs and deadlines only"
+--   passes?, Fails c s j     whether queue j passes 17; it does not
+--   fire-seventeen, tick-seventeen
+--                            when 17 is answered
+--   Spent c s i, Starved c s i, Cramped c s i
+--                            9, 11 and 12 of a manual firing: the count of N_i is at its end; its input queue is below threshold; its output queue has no room
+--   fire-nine, -eleven, -twelve
+--                            when each is answered
+--   CountIs c k i m          the immediate run of k source firings would fire N_i m times; of-source, below-threshold, from-threshold: its cases
+--   count-some, count-one    every node has such a count, and one only
+--   CountPasses c k i, immediate-nine
+--                            it is above 1,000,000; and when the run is refused 9
+--   deadline-run-nine        when a deadline run is
+--   deadline-eleven          when a deadline question is refused 11
+--   IndexAt c i k j m        N_j's index on the way down from N_i's k is m; asked, one-down: its cases
+--   index-some, index-one    every node on the way has such an index, and one only
+--   IndexPasses c i k j, PassesFirst c i k L, deadline-thirteen
+--                            it is above 4,294,967,295; N_L's is the first that is; and when a question is refused 13
+--   factory-fourteen, factory-when
+--                            when the factory refuses a number with 14, and when it does not
+use mathlib.Core.Path.{_≡_, refl, sym, ap, subst, _∙_}
+use mathlib.Core.Logic.{_↔_, _≢_, _⊎_, inl, inr, ⊎-elim, by-cases, Iff·trans, Iff·symm, Iff·and, Iff·rfl}
+use mathlib.Core.List.{List, [], _∷_, _++_}
+use Prim.Native.Nat.{ℕ, zero, suc, _+_, _-_, _*_, _/_, _≤_, _<_}
+use native.Mathlib.Decide.{ℕ-discrete, decLe, decLt}
+use native.Mathlib.Omega.{arith}
+use lib.ListN.{length}
+use borrow.Author.Tests.{lt-leb}
+use Rattle.ardenquill.specs.Chains as chains
+use Rattle.ardenquill.specs.Chains.{rowOf, workOf, Silent, Silents, first-silent}
+use Rattle.ardenquill.specs.Analyses.{start, minimumOf, sized, analyseChecks, analyseRefusal, analyseAnswer, runChecks, runRefusal, runAnswer, run-accepts, run-8, Enough, FirstShort, Accepted}
+use Rattle.ardenquill.specs.Runs as runs
+use Rattle.ardenquill.specs.Runs.{countAt, heldAt, doneAt, Broken, FirstBroken, stateCheck, state-silent, countCheck, count-silent, overCheck, over-silent, freshAnswer, fireRefusal, fireAnswer, fire-9, fire-11, fire-12, fire-17}
+use Rattle.ardenquill.specs.Immediate.{immediateRefusal, immediateAnswer, immediate-earlier}
+use Rattle.ardenquill.specs.Deadlines.{answeredDue, deadlineRefusal, deadlineAnswer, deadline-earlier}
+use Rattle.ardenquill.specs.Ticks.{outcomeOf, tickRefusal, tickAnswer, tick-earlier, tick-17, deadlineRunRefusal, deadlineRunAnswer, deadline-run-earlier}
+use Rattle.ardenquill.specs.Files.{packed, writeRefusal, Output}
+use Rattle.ardenquill.specs.Reports.{reportText, reportRefusal}
+use Rattle.ardenquill.specs.Records.{Chain, LengthAnswer, Run}
+use Rattle.promises.specs.Order.{not-listed, LowestOf, said}
+use Rattle.promises.specs.Replay.{pOf, τOf, cOf, Accepts, line, Passes, Ample, accepts-is}
+use Rattle.promises.specs.Laws.{minimum-is, capacity-is, may-run-is, silents-append, silents-parts, passes-at, passes-is, over-is}
+use Rattle.promises.specs.Demand1.{analyse-numbers, fresh-numbers, fire-numbers, write-numbers, report-numbers}
+
+-- none of 2 to 8 has a reason to refuse the chain
+abbrev pub MayRun : Chain → Type 0
+MayRun c = Accepts c × ((j : ℕ) → j < c .n → Ample c j)
+
+-- 17 has none to refuse the state
+abbrev pub PassesAll : Chain → Run → Type 0
+PassesAll c s = (j : ℕ) → j < c .n → Passes c s j
+
+-- the checks of the analysis, and of a run
+module _ (c : Chain) where
+  analyse-quiet : Silents (analyseChecks c) ↔ Accepts c
+  unfolding analyseAnswer analyseRefusal sized
+  analyse-quiet = Iff·symm (first-silent (analyseChecks c))
+
+  run-quiet : Silents (runChecks c) ↔ MayRun c
+  unfolding runRefusal
+  run-quiet = Iff·trans (Iff·symm (first-silent (runChecks c))) (Iff·trans (run-accepts c) (may-run-is c))
+
+-- "Manual firing, runs and deadline questions check the analysis first", and runs and deadline questions 8: each of these numbers they answer exactly where a chain that
+-- is checked for a run is answered it, with its place
+module _ (c : Chain) (N L : ℕ) (some : N ≢ 0) (early : N < 9) where
+  -- an immediate run
+  pub immediate-begins : (k : ℕ) → ((immediateAnswer c k .number ≡ N) × (immediateAnswer c k .place ≡ L)) ↔ ((runAnswer c .number ≡ N) × (runAnswer c .place ≡ L))
+  unfolding immediateAnswer runs.answered runAnswer sized
+  immediate-begins k = Iff·trans (said (immediateRefusal c k) N L) (Iff·trans (immediate-earlier c k N L some (λ e. omega arith)) (Iff·symm (said (runRefusal c) N L)))
+
+  -- a deadline question
+  pub deadline-begins : (i k : ℕ) → ((deadlineAnswer c i k .number ≡ N) × (deadlineAnswer c i k .place ≡ L)) ↔ ((runAnswer c .number ≡ N) × (runAnswer c .place ≡ L))
+  unfolding deadlineAnswer answeredDue runAnswer sized
+  deadline-begins i k = Iff·trans (said (deadlineRefusal c i k) N L) (Iff·trans (deadline-earlier c i k L N some early) (Iff·symm (said (runRefusal c) N L)))
+
+  -- a tick
+  pub tick-begins : (s : Run) → ((tickAnswer c s .number ≡ N) × (tickAnswer c s .place ≡ L)) ↔ ((runAnswer c .number ≡ N) × (runAnswer c .place ≡ L))
+  unfolding tickAnswer outcomeOf runAnswer sized
+  tick-begins s = Iff·trans (said (tickRefusal c s) N L) (Iff·trans (tick-earlier c s N L some (λ e. omega arith) (λ e. omega arith)) (Iff·symm (said (runRefusal c) N L)))
+
+  -- a deadline run
+  pub deadline-run-begins : (T : ℕ) → ((deadlineRunAnswer c T .number ≡ N) × (deadlineRunAnswer c T .place ≡ L)) ↔ ((runAnswer c .number ≡ N) × (runAnswer c .place ≡ L))
+  unfolding deadlineRunAnswer outcomeOf runAnswer sized
+  deadline-run-begins T = Iff·trans (said (deadlineRunRefusal c T) N L) (Iff·trans (deadline-run-earlier c T N L some (λ e. omega arith)) (Iff·symm (said (runRefusal c) N L)))
+
+-- 8's "B (not 0) below b", at queue j
+abbrev pub TooSmall : Chain → ℕ → Type 0
+TooSmall c j = (j < c .n) × ((rowOf c j .capacity ≢ 0) × (rowOf c j .capacity < line c j .minimum))
+
+-- 8: place "lowest queue"
+pub checked-eight : (c : Chain) (L : ℕ) → ((runAnswer c .number ≡ 8) × (runAnswer c .place ≡ L)) ↔ (Accepts c × LowestOf (TooSmall c) L)
+unfolding runAnswer sized
+checked-eight c L = Iff·trans (said (runRefusal c) 8 L) (Iff·trans (run-8 c L) (
+  λ h. let ok : Accepts c = analyse-quiet c .0 (h .0) in (ok, out (accepts-is c .0 ok) (h .1)),
+  λ h. (analyse-quiet c .1 (h .0), back (accepts-is c .0 (h .0)) (h .1)),
+))
+  where
+    out : Accepted c → FirstShort c L → LowestOf (TooSmall c) L
+    out a f = record {
+      has = (f .queue, (f .short .0, rw (minimum-is c a L (f .queue)) (f .short .1)));
+      before = λ j l t. ⊎-elim (λ z. t .1 .0 z) (λ h. omega (arith, h, t .1 .1, minimum-is c a j (t .0))) (f .before j l);
+    }
+
+    enough : Accepted c → (j : ℕ) → j < c .n → (TooSmall c j → ⊥) → Enough c j
+    enough a j l none = by-cases (ℕ-discrete (rowOf c j .capacity) 0) (λ z. inl z) (λ n. by-cases (decLe (minimumOf (rowOf c j)) (rowOf c j .capacity)) (λ h. inr h)
+        (λ h. absurd (none (l, (n, omega (arith, h, minimum-is c a j l))))))
+
+    back : Accepted c → LowestOf (TooSmall c) L → FirstShort c L
+    back a f = record {
+      queue = f .has .0;
+      short = (f .has .1 .0, rw (minimum-is c a L (f .has .0)) at (f .has .1 .1));
+      before = λ j l. enough a j (omega (arith, f .has .0)) (f .before j l);
+    }
+
+-- "runs and deadlines only": no other call that is handed a chain, or a chain's file, answers 8
+module _ (c : Chain) where
+  pub analyse-never-8 : analyseAnswer c .number ≢ 8
+  analyse-never-8 = not-listed 8 _ tt (analyse-numbers c)
+
+  pub fresh-never-8 : freshAnswer c .number ≢ 8
+  fresh-never-8 = not-listed 8 _ tt (fresh-numbers c)
+
+  pub fire-never-8 : (s : Run) (i : ℕ) → fireAnswer c s i .number ≢ 8
+  fire-never-8 s i = not-listed 8 _ tt (fire-numbers c s i)
+
+  pub write-never-8 : (o p : List ℕ) (a : LengthAnswer) → Output (writeRefusal c (length o)) (packed c) o p a → a .number ≢ 8
+  write-never-8 o p a w = not-listed 8 _ tt (write-numbers c o p a w)
+
+pub report-never-8 : (f o p : List ℕ) (a : LengthAnswer) → Output (reportRefusal f (length o)) (reportText f) o p a → a .number ≢ 8
+report-never-8 f o p a w = not-listed 8 _ tt (report-numbers f o p a w)
