@@ -6,7 +6,8 @@
 --   last, minimum-by, minimum-as, largest-multiple
 --                            the residue of a queue, its minimum by it and by what else it is, and that it is a largest multiple
 --   may-run-is, run-quiet    two ways to say of a chain that it may run; and then none of the checks of a run speaks
---   silents-append, -parts   nor of two lists of checks in a row where none of either does, and only there
+--   silents-append, -parts, -last
+--                            nor of two lists of checks in a row where none of either does, and only there; of a list with one check behind it
 --   whole, passes-at, passes-is, over-is
 --                            two ways to say of a state that it has all slots, that it passes 17, and that a node in it is over threshold
 --   index-down               an index on the way down to the source
@@ -123,6 +124,10 @@ pub silents-parts : (rs qs : List Refusal) → Silents (rs ++ qs) → Silents rs
 unfolding Silents
 silents-parts [] qs a = (tt, a)
 silents-parts (r ∷ rs) qs a = let p = silents-parts rs qs (a .1) in ((a .0, p .0), p .1)
+
+pub silents-last : (rs : List Refusal) (r : Refusal) → Silents (rs ++ (r ∷ [])) ↔ (Silents rs × Silent r)
+unfolding Silents
+silents-last rs r = (λ a. let p = silents-parts rs (r ∷ []) a in (p .0, p .1 .0), λ a. silents-append rs (r ∷ []) (a .0) (a .1, tt))
 
 -- two ways to say of a state that it has all slots
 pub whole : {s : Run} → AllSlots s → Whole s

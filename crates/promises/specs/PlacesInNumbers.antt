@@ -41,7 +41,7 @@ use Rattle.ardenquill.specs.Chains as chains
 use Rattle.ardenquill.specs.Chains.{rowOf, workOf, Silent, Silents, first-silent}
 use Rattle.ardenquill.specs.Analyses.{start, minimumOf, sized, analyseChecks, analyseRefusal, analyseAnswer, runChecks, runRefusal, runAnswer, run-accepts, run-8, Enough, FirstShort, Accepted}
 use Rattle.ardenquill.specs.Runs as runs
-use Rattle.ardenquill.specs.Runs.{countAt, heldAt, doneAt, Broken, FirstBroken, stateCheck, state-silent, countCheck, count-silent, overCheck, over-silent, freshAnswer, fireRefusal, fireAnswer, fire-9, fire-11, fire-12, fire-17}
+use Rattle.ardenquill.specs.Runs.{countAt, heldAt, doneAt, Over, Broken, FirstBroken, stateCheck, state-silent, countCheck, count-silent, overCheck, over-silent, freshAnswer, fireRefusal, fireAnswer, fire-9, fire-11, fire-12, fire-17}
 use Rattle.ardenquill.specs.Immediate.{immediateRefusal, immediateAnswer, immediate-earlier}
 use Rattle.ardenquill.specs.Deadlines.{answeredDue, deadlineRefusal, deadlineAnswer, deadline-earlier}
 use Rattle.ardenquill.specs.Ticks.{outcomeOf, tickRefusal, tickAnswer, tick-earlier, tick-17, deadlineRunRefusal, deadlineRunAnswer, deadline-run-earlier}
@@ -50,7 +50,7 @@ use Rattle.ardenquill.specs.Reports.{reportText, reportRefusal}
 use Rattle.ardenquill.specs.Records.{Chain, LengthAnswer, Run}
 use Rattle.promises.specs.Order.{not-listed, LowestOf, said}
 use Rattle.promises.specs.Replay.{pOf, τOf, cOf, Accepts, line, Passes, Ample, accepts-is}
-use Rattle.promises.specs.Laws.{minimum-is, capacity-is, may-run-is, silents-append, silents-parts, passes-at, passes-is, over-is}
+use Rattle.promises.specs.Laws.{minimum-is, capacity-is, may-run-is, silents-last, passes-at, passes-is, over-is}
 use Rattle.promises.specs.Demand1.{analyse-numbers, fresh-numbers, fire-numbers, write-numbers, report-numbers}
 
 -- none of 2 to 8 has a reason to refuse the chain
@@ -139,3 +139,134 @@ module _ (c : Chain) where
 
 pub report-never-8 : (f o p : List ℕ) (a : LengthAnswer) → Output (reportRefusal f (length o)) (reportText f) o p a → a .number ≢ 8
 report-never-8 f o p a w = not-listed 8 _ tt (report-numbers f o p a w)
+
+-- whether queue j passes 17
+pub passes? : (c : Chain) (s : Run) (j : ℕ) → Dec (Passes c s j)
+passes? c s j = by-cases (ℕ-discrete (start (rowOf c j) + pOf c j * countAt s j) (heldAt s j + cOf c j * countAt s (suc j)))
+    (λ b. by-cases (decLe (heldAt s j) (line c j .capacity))
+    (λ k. by-cases (decLt (doneAt s j) (workOf c j)) (λ w. yes (record { balance = b; capacity = k; work = w })) (λ n. no (λ p. n (p .work))))
+    (λ n. no (λ p. n (p .capacity))))
+    (λ n. no (λ p. n (p .balance)))
+
+-- 17's "breaks the balance .., passes a capacity, or has work done of e or more", at queue j, "for work done the one feeding the node"
+abbrev pub Fails : Chain → Run → ℕ → Type 0
+Fails c s j = (j < c .n) × (Passes c s j → ⊥)
+
+module _ (c : Chain) (s : Run) where
+  -- the lowest queue that does not pass
+  broken-first : Accepts c → (L : ℕ) → FirstBroken c s L ↔ LowestOf (Fails c s) L
+  broken-first ok L = (
+    λ f. record { has = (f .queue, fails L (f .queue) (f .broken)); before = λ j l t. t .1 (passes-at c s ok j (t .0) .0 (f .before j l)) },
+    λ f. record {
+      queue = f .has .0;
+      broken = broken L (f .has .0) (f .has .1);
+      before = λ j l.
+          let m : j < c .n = omega (arith, f .has .0) in
+          passes-at c s ok j m .1 (by-cases (passes? c s j) (λ p. p) (λ n. absurd (f .before j l (m, n))));
+    },
+  )
+    where
+      fails : (j : ℕ) → j < c .n → Broken c s j → Passes c s j → ⊥
+      fails j l b p = ⊎-elim (λ h. ⊎-elim (λ n. n (p .balance)) (λ m. omega (arith, m, p .capacity, capacity-is c (accepts-is c .0 ok) j l)) h) (λ m. omega (arith, m, p .work)) b
+
+      broken : (j : ℕ) → j < c .n → (Passes c s j → ⊥) → Broken c s j
+      broken j l n = by-cases (ℕ-discrete (start (rowOf c j) + pOf c j * countAt s j) (heldAt s j + cOf c j * countAt s (suc j)))
+          (λ b. by-cases (decLe (heldAt s j) (line c j .capacity))
+          (λ k. inr (by-cases (decLe (workOf c j) (doneAt s j)) (λ w. w) (λ m. absurd (n (record { balance = b; capacity = k; work = omega arith })))))
+          (λ m. inl (inr (omega (arith, m, capacity-is c (accepts-is c .0 ok) j l)))))
+          (λ b. inl (inl b))
+
+  -- 17: place "lowest queue", of a manual firing
+  pub fire-seventeen : (i L : ℕ) → ((fireAnswer c s i .number ≡ 17) × (fireAnswer c s i .place ≡ L)) ↔ (Accepts c × LowestOf (Fails c s) L)
+  unfolding fireAnswer runs.answered
+  fire-seventeen i L = Iff·trans (said (fireRefusal c s i) 17 L) (Iff·trans (fire-17 c s i L) (
+    λ h. let ok = analyse-quiet c .0 (h .0) in (ok, broken-first ok L .0 (h .1)),
+    λ h. (analyse-quiet c .1 (h .0), broken-first (h .0) L .1 (h .1)),
+  ))
+
+  -- and of a tick, "after 8"
+  pub tick-seventeen : (L : ℕ) → ((tickAnswer c s .number ≡ 17) × (tickAnswer c s .place ≡ L)) ↔ (MayRun c × LowestOf (Fails c s) L)
+  unfolding tickAnswer outcomeOf
+  tick-seventeen L = Iff·trans (said (tickRefusal c s) 17 L) (Iff·trans (tick-17 c s L) (
+    λ h. let may = run-quiet c .0 (h .0) in (may, broken-first (may .0) L .0 (h .1)),
+    λ h. (run-quiet c .1 (h .0), broken-first (h .0 .0) L .1 (h .1)),
+  ))
+
+-- 9's "once its count is 4,294,967,295", of a node N_i
+abbrev pub Spent : Chain → Run → ℕ → Type 0
+Spent c s i = (i ≤ c .n) × (countAt s i ≡ 4294967295)
+
+-- 11's "node not over threshold": N_i has an input queue, and that holds less than τ
+pub record Starved (c : Chain) (s : Run) (i : ℕ) : Type 0 where
+  pub queue : ℕ
+  pub is : i ≡ suc queue
+  pub below : heldAt s queue < τOf c queue
+
+-- 12's "would pass a capacity": N_i has an output queue, and p more would
+abbrev pub Cramped : Chain → Run → ℕ → Type 0
+Cramped c s i = (i < c .n) × (line c i .capacity < heldAt s i + pOf c i)
+
+module _ (c : Chain) (s : Run) (i : ℕ) where
+  -- the checks before 9
+  before-nine : Silents (analyseChecks c ++ (stateCheck c s ∷ [])) ↔ (Accepts c × PassesAll c s)
+  before-nine = Iff·trans (silents-last (analyseChecks c) (stateCheck c s)) (
+    λ h. let ok = analyse-quiet c .0 (h .0) in (ok, passes-is c s ok .0 (state-silent c s .0 (h .1))),
+    λ h. (analyse-quiet c .1 (h .0), state-silent c s .1 (passes-is c s (h .0) .1 (h .1))),
+  )
+
+  -- before 11
+  unspent : Silent (countCheck c s i) ↔ (Spent c s i → ⊥)
+  unspent = by-cases (decLe i (c .n))
+      (λ l. Iff·trans (count-silent c s i l) (λ n h. n (h .1), λ n e. n (l, e)))
+      (λ n. (λ z h. n (h .0), λ h. simp (lt-leb i (c .n) (omega arith))))
+
+  before-eleven : Silents (analyseChecks c ++ (stateCheck c s ∷ countCheck c s i ∷ [])) ↔ ((Accepts c × PassesAll c s) × (Spent c s i → ⊥))
+  before-eleven = Iff·trans (silents-last (analyseChecks c ++ (stateCheck c s ∷ [])) (countCheck c s i)) (Iff·and before-nine unspent)
+
+  -- and before 12
+  starved-is : (Over c s i → ⊥) ↔ Starved c s i
+  starved-is = by i
+    where
+      by : (m : ℕ) → (Over c s m → ⊥) ↔ Starved c s m
+      by zero = (λ n. absurd (n tt), λ h. absurd (omega (arith, h .is)))
+      by (suc q) = (λ n. record { queue = q; is = refl; below = omega arith }, λ h o. omega (arith, h .below, over-is c s (suc q) .0 o (h .queue) (h .is)))
+
+  fed-enough : Silent (overCheck c s i) ↔ ((i ≤ c .n) × (Starved c s i → ⊥))
+  fed-enough = Iff·trans (over-silent c s i) (Iff·and Iff·rfl (
+    λ o h. starved-is .1 h o,
+    λ n. by-cases (over? i) (λ o. o) (λ m. absurd (n (starved-is .0 m))),
+  ))
+    where
+      over? : (m : ℕ) → Dec (Over c s m)
+      over? zero = yes tt
+      over? (suc q) = decLe (τOf c q) (heldAt s q)
+
+  before-twelve : Silents (analyseChecks c ++ (stateCheck c s ∷ countCheck c s i ∷ overCheck c s i ∷ [])) ↔ (((Accepts c × PassesAll c s) × (Spent c s i → ⊥)) × ((i ≤ c .n) × (Starved c s i → ⊥)))
+  before-twelve = Iff·trans (silents-last (analyseChecks c ++ (stateCheck c s ∷ countCheck c s i ∷ [])) (overCheck c s i)) (Iff·and before-eleven fed-enough)
+
+  module _ (L : ℕ) where
+    -- 9: "with the node as place once its count is 4,294,967,295, tested before 11 and 12", and after 17
+    pub fire-nine : ((fireAnswer c s i .number ≡ 9) × (fireAnswer c s i .place ≡ L)) ↔ ((Accepts c × PassesAll c s) × (Spent c s i × (L ≡ i)))
+    unfolding fireAnswer runs.answered
+    fire-nine = Iff·trans (said (fireRefusal c s i) 9 L) (Iff·trans (fire-9 c s i L) (Iff·and before-nine Iff·rfl))
+
+    -- 11: "no such node, .. or node not over threshold", place "node"
+    pub fire-eleven : ((fireAnswer c s i .number ≡ 11) × (fireAnswer c s i .place ≡ L)) ↔ (((Accepts c × PassesAll c s) × (Spent c s i → ⊥)) × (((c .n < i) ⊎ Starved c s i) × (L ≡ i)))
+    unfolding fireAnswer runs.answered
+    fire-eleven = Iff·trans (said (fireRefusal c s i) 11 L) (Iff·trans (fire-11 c s i L) (Iff·and before-eleven (Iff·and (
+      ⊎-elim (λ l. inl l) (λ n. inr (starved-is .0 n)),
+      ⊎-elim (λ l. inl l) (λ h. inr (starved-is .1 h)),
+    ) Iff·rfl)))
+
+    -- 12: "a manual firing would pass a capacity", place "queue"; N_i fills queue i
+    pub fire-twelve : ((fireAnswer c s i .number ≡ 12) × (fireAnswer c s i .place ≡ L)) ↔ ((((Accepts c × PassesAll c s) × (Spent c s i → ⊥)) × ((i ≤ c .n) × (Starved c s i → ⊥))) × (Cramped c s i × (L ≡ i)))
+    unfolding fireAnswer runs.answered
+    fire-twelve = Iff·trans (said (fireRefusal c s i) 12 L) (Iff·trans (fire-12 c s i L) (
+      λ h.
+          let q = before-twelve .0 (h .0) in
+          let l : i < c .n = h .1 .0 .0 in
+          (q, ((l, rw (capacity-is c (accepts-is c .0 (q .0 .0 .0)) i l) (h .1 .0 .1)), h .1 .1)),
+      λ h.
+          let l : i < c .n = h .1 .0 .0 in
+          (before-twelve .1 (h .0), ((l, rw (capacity-is c (accepts-is c .0 (h .0 .0 .0 .0)) i l) at (h .1 .0 .1)), h .1 .1)),
+    ))
