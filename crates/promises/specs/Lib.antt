@@ -7,6 +7,7 @@ pub mod RatesInNumbers
 pub mod Demand2
 pub mod TickInNumbers
 pub mod PlacesInNumbers
+pub mod RunsInNumbers
 pub mod Demand3
 pub mod Beyond
 pub mod Replayed

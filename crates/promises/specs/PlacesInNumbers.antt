@@ -1,5 +1,5 @@
--- Demand 2, the refusals 8, 9, 11, 12, 13, 14 and 17 with their places, of each call that answers them, by the numbers of its chain and its state: of the words by which
--- they are defined none stands in these laws. 6 and 7 are in RatesInNumbers, 9 and 13 of one tick in Demand2 and TickInNumbers.
+-- Demand 2, the refusals 8, 14 and 17, and those of a manual firing, with their places, by the numbers of chain and state: of the words by which they are defined none
+-- stands in these laws. 6 and 7 are in RatesInNumbers, the numbers of runs and deadline questions in RunsInNumbers, 9 and 13 of one tick in Demand2 and TickInNumbers.
 --   c, s, i, j, k, T, L      a chain, a run state, a node, a queue (N_j feeds it and N_(j+1) empties it), a number or an index, ticks, a place
 --   Accepts c, line c j      the analysis does not refuse c; what it answers of queue j: b is minimum, the capacity in force capacity (Replay)
 --   LowestOf Reason L        L has the reason, and none before it has (Order)
@@ -8,7 +8,7 @@
 --                            what is answered of a chain that is checked for a run every run and deadline question answers, too
 --   TooSmall c j, checked-eight
 --                            8 at queue j; and when it is answered
---   analyse-, fresh-, fire-, write-, report-never-8
+--   analyse-, fresh-, fire-, write-, report-never-eight
 --                            "runs and deadlines only"
 --   passes?, Fails c s j     whether queue j passes 17; it does not
 --   fire-seventeen, tick-seventeen
@@ -17,28 +17,18 @@
 --                            9, 11 and 12 of a manual firing: the count of N_i is at its end; its input queue is below threshold; its output queue has no room
 --   fire-nine, -eleven, -twelve
 --                            when each is answered
---   CountIs c k i m          the immediate run of k source firings would fire N_i m times; of-source, below-threshold, from-threshold: its cases
---   count-some, count-one    every node has such a count, and one only
---   CountPasses c k i, immediate-nine
---                            it is above 1,000,000; and when the run is refused 9
---   deadline-run-nine        when a deadline run is
---   deadline-eleven          when a deadline question is refused 11
---   IndexAt c i k j m        N_j's index on the way down from N_i's k is m; asked, one-down: its cases
---   index-some, index-one    every node on the way has such an index, and one only
---   IndexPasses c i k j, PassesFirst c i k L, deadline-thirteen
---                            it is above 4,294,967,295; N_L's is the first that is; and when a question is refused 13
 --   factory-fourteen, factory-when
 --                            when the factory refuses a number with 14, and when it does not
-use mathlib.Core.Path.{_≡_, refl, sym, ap, subst, _∙_}
+use mathlib.Core.Path.{_≡_, refl, ap, _∙_}
 use mathlib.Core.Logic.{_↔_, _≢_, _⊎_, inl, inr, ⊎-elim, by-cases, Iff·trans, Iff·symm, Iff·and, Iff·rfl}
 use mathlib.Core.List.{List, [], _∷_, _++_}
-use Prim.Native.Nat.{ℕ, zero, suc, _+_, _-_, _*_, _/_, _≤_, _<_}
+use Prim.Native.Nat.{ℕ, zero, suc, _+_, _*_, _≤_, _<_}
 use native.Mathlib.Decide.{ℕ-discrete, decLe, decLt}
 use native.Mathlib.Omega.{arith}
-use lib.ListN.{length}
+use lib.ListN.{length, getD}
 use borrow.Author.Tests.{lt-leb}
 use Rattle.ardenquill.specs.Chains as chains
-use Rattle.ardenquill.specs.Chains.{rowOf, workOf, Silent, Silents, first-silent}
+use Rattle.ardenquill.specs.Chains.{rowOf, workOf, Silent, Silents, first-silent, factoryRefusal, factoryAnswer, factory-exact}
 use Rattle.ardenquill.specs.Analyses.{start, minimumOf, sized, analyseChecks, analyseRefusal, analyseAnswer, runChecks, runRefusal, runAnswer, run-accepts, run-8, Enough, FirstShort, Accepted}
 use Rattle.ardenquill.specs.Runs as runs
 use Rattle.ardenquill.specs.Runs.{countAt, heldAt, doneAt, Over, Broken, FirstBroken, stateCheck, state-silent, countCheck, count-silent, overCheck, over-silent, freshAnswer, fireRefusal, fireAnswer, fire-9, fire-11, fire-12, fire-17}
@@ -51,7 +41,7 @@ use Rattle.ardenquill.specs.Records.{Chain, LengthAnswer, Run}
 use Rattle.promises.specs.Order.{not-listed, LowestOf, said}
 use Rattle.promises.specs.Replay.{pOf, τOf, cOf, Accepts, line, Passes, Ample, accepts-is}
 use Rattle.promises.specs.Laws.{minimum-is, capacity-is, may-run-is, silents-last, passes-at, passes-is, over-is}
-use Rattle.promises.specs.Demand1.{analyse-numbers, fresh-numbers, fire-numbers, write-numbers, report-numbers}
+use Rattle.promises.specs.Demand1.{factory-numbers, analyse-numbers, fresh-numbers, fire-numbers, write-numbers, report-numbers}
 
 -- none of 2 to 8 has a reason to refuse the chain
 abbrev pub MayRun : Chain → Type 0
@@ -67,7 +57,7 @@ module _ (c : Chain) where
   unfolding analyseAnswer analyseRefusal sized
   analyse-quiet = Iff·symm (first-silent (analyseChecks c))
 
-  run-quiet : Silents (runChecks c) ↔ MayRun c
+  pub run-quiet : Silents (runChecks c) ↔ MayRun c
   unfolding runRefusal
   run-quiet = Iff·trans (Iff·symm (first-silent (runChecks c))) (Iff·trans (run-accepts c) (may-run-is c))
 
@@ -125,20 +115,20 @@ checked-eight c L = Iff·trans (said (runRefusal c) 8 L) (Iff·trans (run-8 c L)
 
 -- "runs and deadlines only": no other call that is handed a chain, or a chain's file, answers 8
 module _ (c : Chain) where
-  pub analyse-never-8 : analyseAnswer c .number ≢ 8
-  analyse-never-8 = not-listed 8 _ tt (analyse-numbers c)
+  pub analyse-never-eight : analyseAnswer c .number ≢ 8
+  analyse-never-eight = not-listed 8 _ tt (analyse-numbers c)
 
-  pub fresh-never-8 : freshAnswer c .number ≢ 8
-  fresh-never-8 = not-listed 8 _ tt (fresh-numbers c)
+  pub fresh-never-eight : freshAnswer c .number ≢ 8
+  fresh-never-eight = not-listed 8 _ tt (fresh-numbers c)
 
-  pub fire-never-8 : (s : Run) (i : ℕ) → fireAnswer c s i .number ≢ 8
-  fire-never-8 s i = not-listed 8 _ tt (fire-numbers c s i)
+  pub fire-never-eight : (s : Run) (i : ℕ) → fireAnswer c s i .number ≢ 8
+  fire-never-eight s i = not-listed 8 _ tt (fire-numbers c s i)
 
-  pub write-never-8 : (o p : List ℕ) (a : LengthAnswer) → Output (writeRefusal c (length o)) (packed c) o p a → a .number ≢ 8
-  write-never-8 o p a w = not-listed 8 _ tt (write-numbers c o p a w)
+  pub write-never-eight : (o p : List ℕ) (a : LengthAnswer) → Output (writeRefusal c (length o)) (packed c) o p a → a .number ≢ 8
+  write-never-eight o p a w = not-listed 8 _ tt (write-numbers c o p a w)
 
-pub report-never-8 : (f o p : List ℕ) (a : LengthAnswer) → Output (reportRefusal f (length o)) (reportText f) o p a → a .number ≢ 8
-report-never-8 f o p a w = not-listed 8 _ tt (report-numbers f o p a w)
+pub report-never-eight : (f o p : List ℕ) (a : LengthAnswer) → Output (reportRefusal f (length o)) (reportText f) o p a → a .number ≢ 8
+report-never-eight f o p a w = not-listed 8 _ tt (report-numbers f o p a w)
 
 -- whether queue j passes 17
 pub passes? : (c : Chain) (s : Run) (j : ℕ) → Dec (Passes c s j)
@@ -270,3 +260,17 @@ module _ (c : Chain) (s : Run) (i : ℕ) where
           let l : i < c .n = h .1 .0 .0 in
           (before-twelve .1 (h .0), ((l, rw (capacity-is c (accepts-is c .0 (h .0 .0 .0 .0)) i l) at (h .1 .0 .1)), h .1 .1)),
     ))
+
+-- 14: "no such factory chain", place "number asked": there are three, 0 to 2
+pub factory-fourteen : (k L : ℕ) → ((factoryAnswer k .number ≡ 14) × (factoryAnswer k .place ≡ L)) ↔ ((2 < k) × (L ≡ k))
+unfolding factoryAnswer chains.answered
+factory-fourteen k L = Iff·trans (said (factoryRefusal k) 14 L) (factory-exact L k)
+
+-- and every other number is answered with its chain
+pub factory-when : (k : ℕ) → (factoryAnswer k .number ≡ 0) ↔ (k ≤ 2)
+factory-when k = (
+  λ z. by-cases (decLe k 2) (λ l. l) (λ n. absurd (omega (arith, z, factory-fourteen k k .1 (omega arith, refl) .0))),
+  λ l. by-cases (ℕ-discrete (factoryAnswer k .number) 14)
+      (λ e. absurd (omega (arith, factory-fourteen k _ .0 (e, refl) .0)))
+      (λ n. ⊎-elim (λ z. z .1 .0) (λ r. let only : r .at ≡ 0 = omega (arith, r .inside) in absurd (n (r .number ∙ ap (λ (m : ℕ). getD (14 ∷ []) m 0) only))) (factory-numbers k)),
+)

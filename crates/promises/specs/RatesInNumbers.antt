@@ -21,7 +21,7 @@
 --   f, o, p, a               the bytes of a file; lent bytes before and after a report, whose answer is a (Files)
 --   report-six, -seven       and a report does of the chain that is read
 use mathlib.Core.Path.{_≡_, refl, sym, ap, subst, _∙_}
-use mathlib.Core.Logic.{_↔_, _≢_, _⊎_, inl, inr, ⊎-elim, by-cases, Iff·trans, Iff·symm, Iff·and, Iff·rfl}
+use mathlib.Core.Logic.{_↔_, _≢_, _⊎_, inl, inr, ⊎-elim, by-cases, Iff·trans, Iff·symm, Iff·rfl}
 use mathlib.Core.List.{List, [], _∷_, _++_}
 use Prim.Native.Nat.{ℕ, zero, suc, _+_, _*_, _/_, _≤_, _<_, _∣_}
 use native.Mathlib.Nat.{mul-div-cancel-left, mul-div-cancel', dvd-mul-right-of-dvd, dvd-antisymm, pos-of-dvd-of-pos}
@@ -38,8 +38,8 @@ use Rattle.ardenquill.specs.Files.{chainOf, readChecks, readRefusal, readAnswer
 use Rattle.ardenquill.specs.Reports.{reportText, reportRefusal, report-6, report-7}
 use Rattle.ardenquill.specs.Records.{Refusal, Chain, LengthAnswer, Run}
 use Rattle.promises.specs.Order.{LowestOf, said}
-use Rattle.promises.specs.Replay.{pOf, cOf, Accepts, line, rateX, rateY, accepts-is}
-use Rattle.promises.specs.Laws.{report-is, x-is, y-is, rate-x-is, silents-append, silents-parts}
+use Rattle.promises.specs.Replay.{pOf, cOf, Accepts, line, accepts-is}
+use Rattle.promises.specs.Laws.{report-is, x-is, y-is, silents-append, silents-parts}
 
 -- 01's "gcd" in words: it divides both, and every number that does divides it
 pub record GreatestDivisor (a b g : ℕ) : Type 0 where
