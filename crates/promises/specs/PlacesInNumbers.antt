@@ -8,6 +8,7 @@
 --                            what is answered of a chain that is checked for a run every run and deadline question answers, too
 --   TooSmall c j, checked-eight
 --                            8 at queue j; and when it is answered
+--   f, o, p, a               the bytes of a file; lent bytes before and after a call, whose answer is a: Output says what a call that writes does (Files)
 --   analyse-, fresh-, fire-, write-, report-never-eight
 --                            "runs and deadlines only"
 --   passes?, Fails c s j     whether queue j passes 17; it does not
@@ -51,12 +52,13 @@ MayRun c = Accepts c × ((j : ℕ) → j < c .n → Ample c j)
 abbrev pub PassesAll : Chain → Run → Type 0
 PassesAll c s = (j : ℕ) → j < c .n → Passes c s j
 
--- the checks of the analysis, and of a run
 module _ (c : Chain) where
+  -- the checks of the analysis
   analyse-quiet : Silents (analyseChecks c) ↔ Accepts c
   unfolding analyseAnswer analyseRefusal sized
   analyse-quiet = Iff·symm (first-silent (analyseChecks c))
 
+  -- and of a run
   pub run-quiet : Silents (runChecks c) ↔ MayRun c
   unfolding runRefusal
   run-quiet = Iff·trans (Iff·symm (first-silent (runChecks c))) (Iff·trans (run-accepts c) (may-run-is c))
@@ -115,28 +117,45 @@ checked-eight c L = Iff·trans (said (runRefusal c) 8 L) (Iff·trans (run-8 c L)
 
 -- "runs and deadlines only": no other call that is handed a chain, or a chain's file, answers 8
 module _ (c : Chain) where
+  -- the analysis
   pub analyse-never-eight : analyseAnswer c .number ≢ 8
   analyse-never-eight = not-listed 8 _ tt (analyse-numbers c)
 
+  -- a fresh start
   pub fresh-never-eight : freshAnswer c .number ≢ 8
   fresh-never-eight = not-listed 8 _ tt (fresh-numbers c)
 
+  -- a manual firing
   pub fire-never-eight : (s : Run) (i : ℕ) → fireAnswer c s i .number ≢ 8
   fire-never-eight s i = not-listed 8 _ tt (fire-numbers c s i)
 
+  -- the writer
   pub write-never-eight : (o p : List ℕ) (a : LengthAnswer) → Output (writeRefusal c (length o)) (packed c) o p a → a .number ≢ 8
   write-never-eight o p a w = not-listed 8 _ tt (write-numbers c o p a w)
 
+-- and the report
 pub report-never-eight : (f o p : List ℕ) (a : LengthAnswer) → Output (reportRefusal f (length o)) (reportText f) o p a → a .number ≢ 8
 report-never-eight f o p a w = not-listed 8 _ tt (report-numbers f o p a w)
 
--- whether queue j passes 17
-pub passes? : (c : Chain) (s : Run) (j : ℕ) → Dec (Passes c s j)
-passes? c s j = by-cases (ℕ-discrete (start (rowOf c j) + pOf c j * countAt s j) (heldAt s j + cOf c j * countAt s (suc j)))
+-- one of 17's reasons holds at queue j, in 01's order
+abbrev Reasons : Chain → Run → ℕ → Type 0
+Reasons c s j = ((start (rowOf c j) + pOf c j * countAt s j ≢ heldAt s j + cOf c j * countAt s (suc j)) ⊎ (line c j .capacity < heldAt s j)) ⊎ (workOf c j ≤ doneAt s j)
+
+-- or queue j passes 17
+judged : (c : Chain) (s : Run) (j : ℕ) → Passes c s j ⊎ Reasons c s j
+judged c s j = by-cases (ℕ-discrete (start (rowOf c j) + pOf c j * countAt s j) (heldAt s j + cOf c j * countAt s (suc j)))
     (λ b. by-cases (decLe (heldAt s j) (line c j .capacity))
-    (λ k. by-cases (decLt (doneAt s j) (workOf c j)) (λ w. yes (record { balance = b; capacity = k; work = w })) (λ n. no (λ p. n (p .work))))
-    (λ n. no (λ p. n (p .capacity))))
-    (λ n. no (λ p. n (p .balance)))
+    (λ k. by-cases (decLt (doneAt s j) (workOf c j)) (λ w. inl (record { balance = b; capacity = k; work = w })) (λ n. inr (inr (omega arith))))
+    (λ n. inr (inl (inr (omega arith)))))
+    (λ n. inr (inl (inl n)))
+
+-- and never both
+not-both : (c : Chain) (s : Run) (j : ℕ) → Reasons c s j → Passes c s j → ⊥
+not-both c s j r p = ⊎-elim (⊎-elim (λ n. n (p .balance)) (λ m. omega (arith, m, p .capacity))) (λ m. omega (arith, m, p .work)) r
+
+-- whether queue j passes 17 can be told
+pub passes? : (c : Chain) (s : Run) (j : ℕ) → Dec (Passes c s j)
+passes? c s j = ⊎-elim (λ p. yes p) (λ r. no (not-both c s j r)) (judged c s j)
 
 -- 17's "breaks the balance .., passes a capacity, or has work done of e or more", at queue j, "for work done the one feeding the node"
 abbrev pub Fails : Chain → Run → ℕ → Type 0
@@ -146,25 +165,18 @@ module _ (c : Chain) (s : Run) where
   -- the lowest queue that does not pass
   broken-first : Accepts c → (L : ℕ) → FirstBroken c s L ↔ LowestOf (Fails c s) L
   broken-first ok L = (
-    λ f. record { has = (f .queue, fails L (f .queue) (f .broken)); before = λ j l t. t .1 (passes-at c s ok j (t .0) .0 (f .before j l)) },
+    λ f. record {
+      has = (f .queue, not-both c s L (rw (capacity-is c (accepts-is c .0 ok) L (f .queue)) (f .broken)));
+      before = λ j l t. t .1 (passes-at c s ok j (t .0) .0 (f .before j l));
+    },
     λ f. record {
       queue = f .has .0;
-      broken = broken L (f .has .0) (f .has .1);
+      broken = rw (capacity-is c (accepts-is c .0 ok) L (f .has .0)) at (⊎-elim (λ p. absurd (f .has .1 p)) (λ r. r) (judged c s L));
       before = λ j l.
           let m : j < c .n = omega (arith, f .has .0) in
           passes-at c s ok j m .1 (by-cases (passes? c s j) (λ p. p) (λ n. absurd (f .before j l (m, n))));
     },
   )
-    where
-      fails : (j : ℕ) → j < c .n → Broken c s j → Passes c s j → ⊥
-      fails j l b p = ⊎-elim (λ h. ⊎-elim (λ n. n (p .balance)) (λ m. omega (arith, m, p .capacity, capacity-is c (accepts-is c .0 ok) j l)) h) (λ m. omega (arith, m, p .work)) b
-
-      broken : (j : ℕ) → j < c .n → (Passes c s j → ⊥) → Broken c s j
-      broken j l n = by-cases (ℕ-discrete (start (rowOf c j) + pOf c j * countAt s j) (heldAt s j + cOf c j * countAt s (suc j)))
-          (λ b. by-cases (decLe (heldAt s j) (line c j .capacity))
-          (λ k. inr (by-cases (decLe (workOf c j) (doneAt s j)) (λ w. w) (λ m. absurd (n (record { balance = b; capacity = k; work = omega arith })))))
-          (λ m. inl (inr (omega (arith, m, capacity-is c (accepts-is c .0 ok) j l)))))
-          (λ b. inl (inl b))
 
   -- 17: place "lowest queue", of a manual firing
   pub fire-seventeen : (i L : ℕ) → ((fireAnswer c s i .number ≡ 17) × (fireAnswer c s i .place ≡ L)) ↔ (Accepts c × LowestOf (Fails c s) L)
@@ -204,16 +216,17 @@ module _ (c : Chain) (s : Run) (i : ℕ) where
     λ h. (analyse-quiet c .1 (h .0), state-silent c s .1 (passes-is c s (h .0) .1 (h .1))),
   )
 
-  -- before 11
+  -- 9 is silent
   unspent : Silent (countCheck c s i) ↔ (Spent c s i → ⊥)
   unspent = by-cases (decLe i (c .n))
       (λ l. Iff·trans (count-silent c s i l) (λ n h. n (h .1), λ n e. n (l, e)))
       (λ n. (λ z h. n (h .0), λ h. simp (lt-leb i (c .n) (omega arith))))
 
+  -- the checks before 11
   before-eleven : Silents (analyseChecks c ++ (stateCheck c s ∷ countCheck c s i ∷ [])) ↔ ((Accepts c × PassesAll c s) × (Spent c s i → ⊥))
   before-eleven = Iff·trans (silents-last (analyseChecks c ++ (stateCheck c s ∷ [])) (countCheck c s i)) (Iff·and before-nine unspent)
 
-  -- and before 12
+  -- two ways to say that N_i is below threshold
   starved-is : (Over c s i → ⊥) ↔ Starved c s i
   starved-is = by i
     where
@@ -221,18 +234,20 @@ module _ (c : Chain) (s : Run) (i : ℕ) where
       by zero = (λ n. absurd (n tt), λ h. absurd (omega (arith, h .is)))
       by (suc q) = (λ n. record { queue = q; is = refl; below = omega arith }, λ h o. omega (arith, h .below, over-is c s (suc q) .0 o (h .queue) (h .is)))
 
-  fed-enough : Silent (overCheck c s i) ↔ ((i ≤ c .n) × (Starved c s i → ⊥))
-  fed-enough = Iff·trans (over-silent c s i) (Iff·and Iff·rfl (
-    λ o h. starved-is .1 h o,
-    λ n. by-cases (over? i) (λ o. o) (λ m. absurd (n (starved-is .0 m))),
-  ))
+  -- 11 is silent, of a node that there is
+  fed-enough : i ≤ c .n → Silent (overCheck c s i) ↔ (Starved c s i → ⊥)
+  fed-enough l = Iff·trans (over-silent c s i) (
+    λ o h. starved-is .1 h (o .1),
+    λ n. (l, by-cases (over? i) (λ o. o) (λ m. absurd (n (starved-is .0 m)))),
+  )
     where
       over? : (m : ℕ) → Dec (Over c s m)
       over? zero = yes tt
       over? (suc q) = decLe (τOf c q) (heldAt s q)
 
-  before-twelve : Silents (analyseChecks c ++ (stateCheck c s ∷ countCheck c s i ∷ overCheck c s i ∷ [])) ↔ (((Accepts c × PassesAll c s) × (Spent c s i → ⊥)) × ((i ≤ c .n) × (Starved c s i → ⊥)))
-  before-twelve = Iff·trans (silents-last (analyseChecks c ++ (stateCheck c s ∷ countCheck c s i ∷ [])) (overCheck c s i)) (Iff·and before-eleven fed-enough)
+  -- the checks before 12
+  before-twelve : i ≤ c .n → Silents (analyseChecks c ++ (stateCheck c s ∷ countCheck c s i ∷ overCheck c s i ∷ [])) ↔ (((Accepts c × PassesAll c s) × (Spent c s i → ⊥)) × (Starved c s i → ⊥))
+  before-twelve l = Iff·trans (silents-last (analyseChecks c ++ (stateCheck c s ∷ countCheck c s i ∷ [])) (overCheck c s i)) (Iff·and before-eleven (fed-enough l))
 
   module _ (L : ℕ) where
     -- 9: "with the node as place once its count is 4,294,967,295, tested before 11 and 12", and after 17
@@ -249,16 +264,16 @@ module _ (c : Chain) (s : Run) (i : ℕ) where
     ) Iff·rfl)))
 
     -- 12: "a manual firing would pass a capacity", place "queue"; N_i fills queue i
-    pub fire-twelve : ((fireAnswer c s i .number ≡ 12) × (fireAnswer c s i .place ≡ L)) ↔ ((((Accepts c × PassesAll c s) × (Spent c s i → ⊥)) × ((i ≤ c .n) × (Starved c s i → ⊥))) × (Cramped c s i × (L ≡ i)))
+    pub fire-twelve : ((fireAnswer c s i .number ≡ 12) × (fireAnswer c s i .place ≡ L)) ↔ ((((Accepts c × PassesAll c s) × (Spent c s i → ⊥)) × (Starved c s i → ⊥)) × (Cramped c s i × (L ≡ i)))
     unfolding fireAnswer runs.answered
     fire-twelve = Iff·trans (said (fireRefusal c s i) 12 L) (Iff·trans (fire-12 c s i L) (
       λ h.
-          let q = before-twelve .0 (h .0) in
           let l : i < c .n = h .1 .0 .0 in
+          let q = before-twelve (omega arith) .0 (h .0) in
           (q, ((l, rw (capacity-is c (accepts-is c .0 (q .0 .0 .0)) i l) (h .1 .0 .1)), h .1 .1)),
       λ h.
           let l : i < c .n = h .1 .0 .0 in
-          (before-twelve .1 (h .0), ((l, rw (capacity-is c (accepts-is c .0 (h .0 .0 .0 .0)) i l) at (h .1 .0 .1)), h .1 .1)),
+          (before-twelve (omega arith) .1 (h .0), ((l, rw (capacity-is c (accepts-is c .0 (h .0 .0 .0 .0)) i l) at (h .1 .0 .1)), h .1 .1)),
     ))
 
 -- 14: "no such factory chain", place "number asked": there are three, 0 to 2

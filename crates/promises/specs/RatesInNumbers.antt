@@ -2,7 +2,7 @@
 --   c, i, j, L               a chain, a node, a queue (N_j feeds it and N_(j+1) empties it), a place
 --   x, y, g, k, b            a rate's two numbers, a divisor, a quotient, busy ticks
 --   Sound c                  2, 4 and 5 do not refuse c (Chains)
---   GreatestDivisor a b g    g divides a and b, and every number that does divides g; greatest-one: of which there is one
+--   GreatestDivisor a b g    g divides a and b, and every number that does divides g; gcd-is, greatest-one: gcd a b is one, and the only one
 --   RateIs c i x y           N_i fires x times in y ticks, by 003's equation 1; at-source, behind-queue: its two cases
 --   rate-some, rate-one      every node has such a rate, and one only
 --   BusyIs c cycle i b       N_1 to N_i are busy b of cycle ticks; no-node, node-more: its two cases
@@ -31,7 +31,7 @@ use lib.ListN.{length}
 use borrow.Author.Tests.{eq-eqb}
 use Rattle.ardenquill.specs.Chains as chains
 use Rattle.ardenquill.specs.Chains.{workOf, refused, Silents, first-silent, chainChecks, Sound, sound-is}
-use Rattle.ardenquill.specs.Analyses.{gcd, gcd-dvd-left, gcd-dvd-right, gcd-greatest, gcd-unique, common, nextX, nextY, xOf, yOf, y-pos, busyIn, busyOf, cycleOf, parts-exact, InLimit, FirstTooLarge, rateCheck, sized, analysisOf, analyseRefusal, analyseAnswer, analyse-6, analyse-7, runRefusal, runAnswer, run-earlier, rates-silent, Accepted}
+use Rattle.ardenquill.specs.Analyses.{gcd, gcd-dvd-left, gcd-dvd-right, gcd-greatest, common, nextX, nextY, xOf, yOf, y-pos, busyIn, busyOf, cycleOf, parts-exact, InLimit, FirstTooLarge, rateCheck, sized, analysisOf, analyseRefusal, analyseAnswer, analyse-6, analyse-7, runRefusal, runAnswer, run-earlier, rates-silent, Accepted}
 use Rattle.ardenquill.specs.Runs as runs
 use Rattle.ardenquill.specs.Runs.{freshAnswer, fireRefusal, fireAnswer, fire-earlier}
 use Rattle.ardenquill.specs.Files.{chainOf, readChecks, readRefusal, readAnswer, read-accepts, Output}
@@ -47,9 +47,13 @@ pub record GreatestDivisor (a b g : ℕ) : Type 0 where
   pub right : g ∣ b
   pub greatest : (d : ℕ) → d ∣ a → d ∣ b → d ∣ g
 
--- there is no second one
-pub greatest-one : (a b g h : ℕ) → GreatestDivisor a b g → GreatestDivisor a b h → g ≡ h
-greatest-one a b g h u v = dvd-antisymm (v .greatest g (u .left) (u .right)) (u .greatest h (v .left) (v .right))
+-- which gcd is
+pub gcd-is : (a b : ℕ) → GreatestDivisor a b (gcd a b)
+gcd-is a b = record { left = gcd-dvd-left a b; right = gcd-dvd-right a b; greatest = gcd-greatest a b }
+
+-- and no second number
+pub greatest-one : {a b g h : ℕ} → GreatestDivisor a b g → GreatestDivisor a b h → g ≡ h
+greatest-one {a} {b} {g} {h} u v = dvd-antisymm (v .greatest g (u .left) (u .right)) (u .greatest h (v .left) (v .right))
 
 -- "N_0 has x=1 and y the period. For queue i: g = gcd(p×x_i, c); x_(i+1) = p×x_i/g; y_(i+1) = c×y_i/g (003, equation 1)", the divisions as products
 pub data RateIs (c : Chain) : ℕ → ℕ → ℕ → Type 0 where
@@ -105,10 +109,8 @@ module _ (c : Chain) (s : Sound c) where
   rate-is zero l = at-source
   rate-is (suc i) l =
       let a : ℕ = pOf c i * xOf c i in
-      behind-queue (rate-is i (omega arith))
-      (record { left = gcd-dvd-left a (cOf c i); right = gcd-dvd-right a (cOf c i); greatest = gcd-greatest a (cOf c i) })
-      (mul-div-cancel' _ (gcd-dvd-left a (cOf c i)))
-      (mul-div-cancel' _ (dvd-mul-right-of-dvd _ (gcd-dvd-right a (cOf c i)) (yOf c i)))
+      let d : GreatestDivisor a (cOf c i) (gcd a (cOf c i)) = gcd-is a (cOf c i) in
+      behind-queue (rate-is i (omega arith)) d (mul-div-cancel' _ (d .left)) (mul-div-cancel' _ (dvd-mul-right-of-dvd _ (d .right) (yOf c i)))
 
   -- and the only one
   rate-only : {i x y : ℕ} → i ≤ c .n → RateIs c i x y → (x ≡ xOf c i) × (y ≡ yOf c i)
@@ -117,7 +119,7 @@ module _ (c : Chain) (s : Sound c) where
   rate-only l (behind-queue {i} {x} {y} {g} {x′} {y′} r d ex ey) =
       let before = rate-only (omega arith) r in
       let some : 0 < g = pos-of-dvd-of-pos (d .right) (consumes i l) in
-      let is : g ≡ gcd (pOf c i * xOf c i) (cOf c i) = gcd-unique _ _ g (d .left) (d .right) (d .greatest) ∙ ap (λ (m : ℕ). gcd (pOf c i * m) (cOf c i)) (before .0) in (
+      let is : g ≡ gcd (pOf c i * xOf c i) (cOf c i) = greatest-one d (gcd-is _ _) ∙ ap (λ (m : ℕ). gcd (pOf c i * m) (cOf c i)) (before .0) in (
         factor _ g x′ some ex ∙ ap (λ (m : ℕ). pOf c i * m / g) (before .0) ∙ ap (λ (m : ℕ). pOf c i * xOf c i / m) is,
         factor _ g y′ some ey ∙ ap (λ (m : ℕ). cOf c i * m / g) (before .1) ∙ ap (λ (m : ℕ). cOf c i * yOf c i / m) is,
       )
@@ -149,6 +151,7 @@ module _ (c : Chain) (s : Sound c) where
   pub load-some : HasLoad c
   load-some = record { cycle = cycleOf c; busy = busyOf c; load = record { x = xOf c (c .n); last = rate-is (c .n) (omega arith); sum = busy-is (c .n) (omega arith) } }
 
+  -- the cycle and the load that the analysis is defined by are the only ones
   load-only : {cycle b : ℕ} → LoadIs c cycle b → (cycle ≡ cycleOf c) × (b ≡ busyOf c)
   load-only {cycle} {b} h =
       let is : cycle ≡ cycleOf c = rate-only (omega arith) (h .last) .1 in
@@ -202,12 +205,16 @@ module _ (c : Chain) (s : Sound c) where
   unfolding load-some
   overload-is = (λ l. record { of = load-some; above = l }, λ o. let is = load-only (o .of .load) in omega (arith, is .0, is .1, o .above))
 
+-- 2, 4 and 5 are silent
+chain-quiet : (c : Chain) → Silents (chainChecks c) ↔ Sound c
+chain-quiet c = sound-is c 20 (20 + 20 * c .n)
+
 -- 6: "some x or y of a rate is above 4,294,967,295", place "lowest node", where 2, 4 and 5 have no reason
 pub analyse-six : (c : Chain) (L : ℕ) → ((analyseAnswer c .number ≡ 6) × (analyseAnswer c .place ≡ L)) ↔ (Sound c × LowestOf (RatePasses c) L)
 unfolding analyseAnswer sized
 analyse-six c L = Iff·trans (said (analyseRefusal c) 6 L) (Iff·trans (analyse-6 c L) (
-  λ h. let s : Sound c = sound-is c 20 (20 + 20 * c .n) .0 (h .0) in (s, lowest-is c s L .0 (h .1)),
-  λ h. (sound-is c 20 (20 + 20 * c .n) .1 (h .0), lowest-is c (h .0) L .1 (h .1)),
+  λ h. let s : Sound c = chain-quiet c .0 (h .0) in (s, lowest-is c s L .0 (h .1)),
+  λ h. (chain-quiet c .1 (h .0), lowest-is c (h .0) L .1 (h .1)),
 ))
 
 -- 7: "overloaded", place 0, where 2, 4, 5 and 6 have no reason; busy that is exactly y_n is accepted
@@ -216,11 +223,11 @@ unfolding analyseAnswer sized Silents
 analyse-seven c L = Iff·trans (said (analyseRefusal c) 7 L) (Iff·trans (analyse-7 c L) (
   λ h.
       let quiet = silents-parts (chainChecks c) (rateCheck c ∷ []) (h .0) in
-      let s : Sound c = sound-is c 20 (20 + 20 * c .n) .0 (quiet .0) in
+      let s : Sound c = chain-quiet c .0 (quiet .0) in
       ((s, rates-are c s .0 (rates-silent c .0 (quiet .1 .0))), (overload-is c s .0 (h .1 .0), h .1 .1)),
   λ h.
       let s : Sound c = h .0 .0 in
-      (silents-append (chainChecks c) (rateCheck c ∷ []) (sound-is c 20 (20 + 20 * c .n) .1 s) (rates-silent c .1 (rates-are c s .1 (h .0 .1)), tt), (overload-is c s .1 (h .1 .0), h .1 .1)),
+      (silents-append (chainChecks c) (rateCheck c ∷ []) (chain-quiet c .1 s) (rates-silent c .1 (rates-are c s .1 (h .0 .1)), tt), (overload-is c s .1 (h .1 .0), h .1 .1)),
 ))
 
 -- "a chain it doesn't refuse is accepted": exactly one that none of 2, 4, 5, 6 and 7 has a reason to refuse
@@ -233,6 +240,7 @@ accepts-when c = Iff·trans (accepts-is c) (
 )
 
 module _ (c : Chain) (ok : Accepts c) where
+  -- no check of the analysis speaks
   accepted : Accepted c
   accepted = accepts-is c .0 ok
 
@@ -277,7 +285,7 @@ module _ (f o p : List ℕ) (a : LengthAnswer) (w : Output (reportRefusal f (len
         let quiet = silents-parts (readChecks f) later (h .0) in
         let z : readRefusal f .number ≡ 0 = first-silent (readChecks f) .1 (quiet .0) in
         let s : Sound c = read-accepts f .0 z .chain in
-        (z, rw (chain-is z) (said (analyseRefusal c) N L .1 (is .1 (silents-append (chainChecks c) later (sound-is c 20 (20 + 20 * c .n) .1 s) (quiet .1), h .1)))),
+        (z, rw (chain-is z) (said (analyseRefusal c) N L .1 (is .1 (silents-append (chainChecks c) later (chain-quiet c .1 s) (quiet .1), h .1)))),
     λ h.
         let b = is .0 (said (analyseRefusal c) N L .0 (rw (chain-is (h .0)) at (h .1))) in
         (silents-append (readChecks f) later (first-silent (readChecks f) .0 (h .0)) (silents-parts (chainChecks c) later (b .0) .1), b .1),
@@ -289,8 +297,10 @@ module _ (f o p : List ℕ) (a : LengthAnswer) (w : Output (reportRefusal f (len
       chain-is : readRefusal f .number ≡ 0 → readAnswer f .chain ≡ c
       chain-is z = simp (eq-eqb _ _ z)
 
+  -- 6 of a report
   pub report-six : ((a .number ≡ 6) × (a .place ≡ L)) ↔ ((readAnswer f .number ≡ 0) × ((analyseAnswer (readAnswer f .chain) .number ≡ 6) × (analyseAnswer (readAnswer f .chain) .place ≡ L)))
   report-six = Iff·trans (report-said 6) (Iff·trans (report-6 f (length o) L) (read-chain [] _ 6 (analyse-6 (chainOf f) L)))
 
+  -- and 7
   pub report-seven : ((a .number ≡ 7) × (a .place ≡ L)) ↔ ((readAnswer f .number ≡ 0) × ((analyseAnswer (readAnswer f .chain) .number ≡ 7) × (analyseAnswer (readAnswer f .chain) .place ≡ L)))
   report-seven = Iff·trans (report-said 7) (Iff·trans (report-7 f (length o) L) (read-chain (rateCheck (chainOf f) ∷ []) _ 7 (analyse-7 (chainOf f) L)))
