@@ -3,7 +3,7 @@
 --   c, s, i, j, k, T, L      a chain, a run state, a node, a queue (N_j feeds it and N_(j+1) empties it), a number or an index, ticks, a place
 --   Accepts c, line c j      the analysis does not refuse c; what it answers of queue j: b is minimum, the capacity in force capacity (Replay)
 --   LowestOf Reason L        L has the reason, and none before it has (Order)
---   MayRun c, PassesAll c s  none of 2 to 8 has a reason to refuse c; 17 has none at any queue of s (Ample, Passes: Replay)
+--   MayRun c, PassesAll c s  none of 2 to 8 has a reason to refuse c (checked-silent); 17 has none at any queue of s (Ample, Passes: Replay)
 --   immediate-, deadline-, tick-, deadline-run-begins
 --                            what is answered of a chain that is checked for a run every run and deadline question answers, too
 --   TooSmall c j, checked-eight
@@ -54,14 +54,14 @@ PassesAll c s = (j : ℕ) → j < c .n → Passes c s j
 
 module _ (c : Chain) where
   -- the checks of the analysis
-  analyse-quiet : Silents (analyseChecks c) ↔ Accepts c
+  analyse-silent : Silents (analyseChecks c) ↔ Accepts c
   unfolding analyseAnswer analyseRefusal sized
-  analyse-quiet = Iff·symm (first-silent (analyseChecks c))
+  analyse-silent = Iff·symm (first-silent (analyseChecks c))
 
   -- and of a run
-  pub run-quiet : Silents (runChecks c) ↔ MayRun c
+  pub checked-silent : Silents (runChecks c) ↔ MayRun c
   unfolding runRefusal
-  run-quiet = Iff·trans (Iff·symm (first-silent (runChecks c))) (Iff·trans (run-accepts c) (may-run-is c))
+  checked-silent = Iff·trans (Iff·symm (first-silent (runChecks c))) (Iff·trans (run-accepts c) (may-run-is c))
 
 -- "Manual firing, runs and deadline questions check the analysis first", and runs and deadline questions 8: each of these numbers they answer exactly where a chain that
 -- is checked for a run is answered it, with its place
@@ -94,8 +94,8 @@ TooSmall c j = (j < c .n) × ((rowOf c j .capacity ≢ 0) × (rowOf c j .capacit
 pub checked-eight : (c : Chain) (L : ℕ) → ((runAnswer c .number ≡ 8) × (runAnswer c .place ≡ L)) ↔ (Accepts c × LowestOf (TooSmall c) L)
 unfolding runAnswer sized
 checked-eight c L = Iff·trans (said (runRefusal c) 8 L) (Iff·trans (run-8 c L) (
-  λ h. let ok : Accepts c = analyse-quiet c .0 (h .0) in (ok, out (accepts-is c .0 ok) (h .1)),
-  λ h. (analyse-quiet c .1 (h .0), back (accepts-is c .0 (h .0)) (h .1)),
+  λ h. let ok : Accepts c = analyse-silent c .0 (h .0) in (ok, out (accepts-is c .0 ok) (h .1)),
+  λ h. (analyse-silent c .1 (h .0), back (accepts-is c .0 (h .0)) (h .1)),
 ))
   where
     out : Accepted c → FirstShort c L → LowestOf (TooSmall c) L
@@ -182,16 +182,16 @@ module _ (c : Chain) (s : Run) where
   pub fire-seventeen : (i L : ℕ) → ((fireAnswer c s i .number ≡ 17) × (fireAnswer c s i .place ≡ L)) ↔ (Accepts c × LowestOf (Fails c s) L)
   unfolding fireAnswer runs.answered
   fire-seventeen i L = Iff·trans (said (fireRefusal c s i) 17 L) (Iff·trans (fire-17 c s i L) (
-    λ h. let ok = analyse-quiet c .0 (h .0) in (ok, broken-first ok L .0 (h .1)),
-    λ h. (analyse-quiet c .1 (h .0), broken-first (h .0) L .1 (h .1)),
+    λ h. let ok = analyse-silent c .0 (h .0) in (ok, broken-first ok L .0 (h .1)),
+    λ h. (analyse-silent c .1 (h .0), broken-first (h .0) L .1 (h .1)),
   ))
 
   -- and of a tick, "after 8"
   pub tick-seventeen : (L : ℕ) → ((tickAnswer c s .number ≡ 17) × (tickAnswer c s .place ≡ L)) ↔ (MayRun c × LowestOf (Fails c s) L)
   unfolding tickAnswer outcomeOf
   tick-seventeen L = Iff·trans (said (tickRefusal c s) 17 L) (Iff·trans (tick-17 c s L) (
-    λ h. let may = run-quiet c .0 (h .0) in (may, broken-first (may .0) L .0 (h .1)),
-    λ h. (run-quiet c .1 (h .0), broken-first (h .0 .0) L .1 (h .1)),
+    λ h. let may = checked-silent c .0 (h .0) in (may, broken-first (may .0) L .0 (h .1)),
+    λ h. (checked-silent c .1 (h .0), broken-first (h .0 .0) L .1 (h .1)),
   ))
 
 -- 9's "once its count is 4,294,967,295", of a node N_i
@@ -212,8 +212,8 @@ module _ (c : Chain) (s : Run) (i : ℕ) where
   -- the checks before 9
   before-nine : Silents (analyseChecks c ++ (stateCheck c s ∷ [])) ↔ (Accepts c × PassesAll c s)
   before-nine = Iff·trans (silents-last (analyseChecks c) (stateCheck c s)) (
-    λ h. let ok = analyse-quiet c .0 (h .0) in (ok, passes-is c s ok .0 (state-silent c s .0 (h .1))),
-    λ h. (analyse-quiet c .1 (h .0), state-silent c s .1 (passes-is c s (h .0) .1 (h .1))),
+    λ h. let ok = analyse-silent c .0 (h .0) in (ok, passes-is c s ok .0 (state-silent c s .0 (h .1))),
+    λ h. (analyse-silent c .1 (h .0), state-silent c s .1 (passes-is c s (h .0) .1 (h .1))),
   )
 
   -- 9 is silent

@@ -206,15 +206,15 @@ module _ (c : Chain) (s : Sound c) where
   overload-is = (λ l. record { of = load-some; above = l }, λ o. let is = load-only (o .of .load) in omega (arith, is .0, is .1, o .above))
 
 -- 2, 4 and 5 are silent
-chain-quiet : (c : Chain) → Silents (chainChecks c) ↔ Sound c
-chain-quiet c = sound-is c 20 (20 + 20 * c .n)
+chain-silent : (c : Chain) → Silents (chainChecks c) ↔ Sound c
+chain-silent c = sound-is c 20 (20 + 20 * c .n)
 
 -- 6: "some x or y of a rate is above 4,294,967,295", place "lowest node", where 2, 4 and 5 have no reason
 pub analyse-six : (c : Chain) (L : ℕ) → ((analyseAnswer c .number ≡ 6) × (analyseAnswer c .place ≡ L)) ↔ (Sound c × LowestOf (RatePasses c) L)
 unfolding analyseAnswer sized
 analyse-six c L = Iff·trans (said (analyseRefusal c) 6 L) (Iff·trans (analyse-6 c L) (
-  λ h. let s : Sound c = chain-quiet c .0 (h .0) in (s, lowest-is c s L .0 (h .1)),
-  λ h. (chain-quiet c .1 (h .0), lowest-is c (h .0) L .1 (h .1)),
+  λ h. let s : Sound c = chain-silent c .0 (h .0) in (s, lowest-is c s L .0 (h .1)),
+  λ h. (chain-silent c .1 (h .0), lowest-is c (h .0) L .1 (h .1)),
 ))
 
 -- 7: "overloaded", place 0, where 2, 4, 5 and 6 have no reason; busy that is exactly y_n is accepted
@@ -223,11 +223,11 @@ unfolding analyseAnswer sized Silents
 analyse-seven c L = Iff·trans (said (analyseRefusal c) 7 L) (Iff·trans (analyse-7 c L) (
   λ h.
       let quiet = silents-parts (chainChecks c) (rateCheck c ∷ []) (h .0) in
-      let s : Sound c = chain-quiet c .0 (quiet .0) in
+      let s : Sound c = chain-silent c .0 (quiet .0) in
       ((s, rates-are c s .0 (rates-silent c .0 (quiet .1 .0))), (overload-is c s .0 (h .1 .0), h .1 .1)),
   λ h.
       let s : Sound c = h .0 .0 in
-      (silents-append (chainChecks c) (rateCheck c ∷ []) (chain-quiet c .1 s) (rates-silent c .1 (rates-are c s .1 (h .0 .1)), tt), (overload-is c s .1 (h .1 .0), h .1 .1)),
+      (silents-append (chainChecks c) (rateCheck c ∷ []) (chain-silent c .1 s) (rates-silent c .1 (rates-are c s .1 (h .0 .1)), tt), (overload-is c s .1 (h .1 .0), h .1 .1)),
 ))
 
 -- "a chain it doesn't refuse is accepted": exactly one that none of 2, 4, 5, 6 and 7 has a reason to refuse
@@ -285,7 +285,7 @@ module _ (f o p : List ℕ) (a : LengthAnswer) (w : Output (reportRefusal f (len
         let quiet = silents-parts (readChecks f) later (h .0) in
         let z : readRefusal f .number ≡ 0 = first-silent (readChecks f) .1 (quiet .0) in
         let s : Sound c = read-accepts f .0 z .chain in
-        (z, rw (chain-is z) (said (analyseRefusal c) N L .1 (is .1 (silents-append (chainChecks c) later (chain-quiet c .1 s) (quiet .1), h .1)))),
+        (z, rw (chain-is z) (said (analyseRefusal c) N L .1 (is .1 (silents-append (chainChecks c) later (chain-silent c .1 s) (quiet .1), h .1)))),
     λ h.
         let b = is .0 (said (analyseRefusal c) N L .0 (rw (chain-is (h .0)) at (h .1))) in
         (silents-append (readChecks f) later (first-silent (readChecks f) .0 (h .0)) (silents-parts (chainChecks c) later (b .0) .1), b .1),

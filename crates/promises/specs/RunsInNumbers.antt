@@ -27,7 +27,7 @@ use Rattle.ardenquill.specs.Records.{Chain}
 use Rattle.promises.specs.Order.{LowestOf, said}
 use Rattle.promises.specs.Replay.{pOf, τOf, cOf, Accepts, line, Runs}
 use Rattle.promises.specs.Laws.{silents-last, fed-by}
-use Rattle.promises.specs.PlacesInNumbers.{MayRun, run-quiet}
+use Rattle.promises.specs.PlacesInNumbers.{MayRun, checked-silent}
 use Rattle.promises.specs.Demand2.{indexBefore, index-asked, index-next, deadline-when, immediate-when}
 
 -- "F_0 = k; F_(i+1) is 0 while p×F_i is below τ, else (p×F_i − τ)/c rounded down, plus 1 (004, Lemma 5.1)": N_i would fire m times, whether the run is refused or not
@@ -82,7 +82,7 @@ module _ (c : Chain) (k : ℕ) where
   -- "Refusal 9 when some count would pass 1,000,000, place the lowest such node"; the source's is k, so more than 1,000,000 of it are 9, place 0
   pub immediate-nine : (L : ℕ) → ((immediateAnswer c k .number ≡ 9) × (immediateAnswer c k .place ≡ L)) ↔ (MayRun c × LowestOf (CountPasses c k) L)
   unfolding immediateAnswer runs.answered count-some
-  immediate-nine L = Iff·trans (said (immediateRefusal c k) 9 L) (Iff·trans (immediate-9 c k L) (Iff·and (run-quiet c) (
+  immediate-nine L = Iff·trans (said (immediateRefusal c k) 9 L) (Iff·trans (immediate-9 c k L) (Iff·and (checked-silent c) (
     λ f. record { has = record { node = f .node; of = count-some L; above = f .above }; before = λ j l p. few j (p .node) .0 (f .before j l) p },
     λ f. record {
       node = f .has .node;
@@ -98,7 +98,7 @@ module _ (c : Chain) (k : ℕ) where
 -- "T at most 1,000,000 (else 9, place 0)"
 pub deadline-run-nine : (c : Chain) (T L : ℕ) → ((deadlineRunAnswer c T .number ≡ 9) × (deadlineRunAnswer c T .place ≡ L)) ↔ (MayRun c × ((1000000 < T) × (L ≡ 0)))
 unfolding deadlineRunAnswer outcomeOf
-deadline-run-nine c T L = Iff·trans (said (deadlineRunRefusal c T) 9 L) (Iff·trans (deadline-run-9 c T L) (Iff·and (run-quiet c) Iff·rfl))
+deadline-run-nine c T L = Iff·trans (said (deadlineRunRefusal c T) 9 L) (Iff·trans (deadline-run-9 c T L) (Iff·and (checked-silent c) Iff·rfl))
 
 -- "(k−1)×y for N_0, else N_(i−1)'s deadline for index ((k−1)×c+B)/p rounded down, plus 1": the index that is asked of N_i, and each one node further down
 pub data IndexAt (c : Chain) (i k : ℕ) : ℕ → ℕ → Type 0 where
@@ -179,7 +179,7 @@ module _ (c : Chain) (i k L : ℕ) where
   -- 11's "no such node, firing index 0", place "node"
   pub deadline-eleven : ((deadlineAnswer c i k .number ≡ 11) × (deadlineAnswer c i k .place ≡ L)) ↔ (MayRun c × (((c .n < i) ⊎ (k ≡ 0)) × (L ≡ i)))
   unfolding deadlineAnswer answeredDue
-  deadline-eleven = Iff·trans (said (deadlineRefusal c i k) 11 L) (Iff·trans (deadline-11 c i k L) (Iff·and (run-quiet c) Iff·rfl))
+  deadline-eleven = Iff·trans (said (deadlineRefusal c i k) 11 L) (Iff·trans (deadline-11 c i k L) (Iff·and (checked-silent c) Iff·rfl))
 
   -- 13: "a deadline index passes 4,294,967,295", place "node whose index it is"
   pub deadline-thirteen : ((deadlineAnswer c i k .number ≡ 13) × (deadlineAnswer c i k .place ≡ L)) ↔ ((MayRun c × ((i ≤ c .n) × (1 ≤ k))) × PassesFirst c i k L)
@@ -187,10 +187,10 @@ module _ (c : Chain) (i k L : ℕ) where
   deadline-thirteen = Iff·trans (said (deadlineRefusal c i k) 13 L) (Iff·trans (deadline-13 c i k L) (
     λ h.
         let q = silents-last (runChecks c) (askCheck c i k) .0 (h .0) in
-        let may = run-quiet c .0 (q .0) in
+        let may = checked-silent c .0 (q .0) in
         let there = ask-silent c i k .0 (q .1) in
         ((may, there), passing-is c (may .0) i k (there .0) L .0 (h .1)),
-    λ h. (silents-last (runChecks c) (askCheck c i k) .1 (run-quiet c .1 (h .0 .0), ask-silent c i k .1 (h .0 .1)), passing-is c (h .0 .0 .0) i k (h .0 .1 .0) L .1 (h .1)),
+    λ h. (silents-last (runChecks c) (askCheck c i k) .1 (checked-silent c .1 (h .0 .0), ask-silent c i k .1 (h .0 .1)), passing-is c (h .0 .0 .0) i k (h .0 .1 .0) L .1 (h .1)),
   ))
 
 -- and a question is answered exactly where no check has a reason
