@@ -12,3 +12,5 @@ pub use Rattle.chain.specs.Checks.{Field, field, ticks, rowFields, fields, row-
 pub use Rattle.chain.specs.Sound.{SoundRow, Sound, sound}
 pub use Rattle.chain.specs.Factory.{queue, made, factoryChains, factoryCheck, factory-exact, trimmed-factory}
 unfoldable pub use Rattle.chain.specs.Factory.{factoryRefusal, factoryAnswer}
+pub use Rattle.chain.specs.Refusals.{absent}
+pub use Rattle.chain.specs.Sound.{sound-is}

@@ -8,3 +8,4 @@ pub use Rattle.state.specs.Fire.{nodeChecks, fireChecks, fire-parts, fire-accep
 unfoldable pub use Rattle.state.specs.Fire.{freshAnswer, fireRefusal, fireAnswer}
 pub use Rattle.past.specs.Chains.{AlikeChains, alike-refl, trimmed-alike, flat-alike, record-alike, chain-alike, rates-alike, cycle-alike, busy-alike, sizes-alike, analyse-alike, analysis-alike, run-alike, run-analysis-alike}
 pub use Rattle.past.specs.Runs.{AlikeRuns, KeptPast, Whole, fresh-alike, fire-alike, past-n, past-kept, whole-kept, fresh-whole}
+pub use Rattle.state.specs.Checks.{count-silent, over-silent}

@@ -17,8 +17,8 @@
 --                            N_j's index on the way down from N_i's k, and the deadline that it leads to (Deadlines)
 --   indexBefore, index-asked, index-next, deadline-when, deadline-is, deadline-source, deadline-next
 --                            "deadlines"
---   May c s i, Passes c s j, AllSlots s
---                            9, 11 and 12 let N_i fire in s (Runs); s passes 17 at queue j, and has all its slots (Replay)
+--   Passes c s j, AllSlots s s passes 17 at queue j, and has all its slots (Replay)
+--   Permits c s i            9, 11 and 12 let N_i fire in s
 --   fresh-when, fresh-is, fire-when, FiredOnce, fire-does
 --                            "manual firing": a fresh start and one firing, accepted when and what it leaves
 --   Runs c k, Fires c h, NearestFirst c h, Low c s, Ample c j
@@ -81,7 +81,7 @@ use Rattle.ardenquill.specs.Flat.{coded, flat}
 use Rattle.ardenquill.specs.Records.{Refusal, Chain, ChainAnswer, LengthAnswer, Analysis, Run, Outcome, Clean, Ticked, TickAnswer}
 use Rattle.ardenquill.specs.Reports.{reportText, reportRefusal, report-accepts}
 use Rattle.promises.specs.Replay.{pOf, τOf, cOf, Accepts, line, rateX, rateY, replayAnswer, Fires, AllSlots, Passes, Ample, Low, NearestFirst, Runs, accepts-is, fires-is}
-use Rattle.promises.specs.Laws.{report-is, x-is, y-is, by-is, capacity-is, rate-x-is, rate-y-is, last, minimum-by, minimum-as, largest-multiple, may-run-is, run-quiet, silents-append, whole, passes-is, index-down, taken, state-is, moment, parts, sound, ends-in, keeps, minimum-is, margin-is, output-silent, coded-overflowed, coded-undated, coded-clean, one-firing}
+use Rattle.promises.specs.Laws.{report-is, x-is, y-is, by-is, capacity-is, rate-x-is, rate-y-is, last, minimum-by, minimum-as, largest-multiple, may-run-is, run-quiet, silents-append, whole, passes-is, index-down, taken, state-is, moment, parts, sound, ends-in, keeps, minimum-is, margin-is, output-silent, coded-overflowed, coded-undated, coded-clean, one-firing, over-is}
 use Rattle.promises.specs.ByTicks.{DeadlineRuns, ticksFrom, ticks-are-run}
 use Rattle.promises.specs.Outcomes.{Says, Cleanly, OverflowedAt, UndatedAt, cleanly-is, overflowed-is, undated-is, says-tick}
 use Rattle.promises.specs.ByCounts.{rule-exhausted, exact-count}
@@ -248,14 +248,29 @@ pub record FiredOnce (c : Chain) (s : Run) (i : ℕ) (t : Run) : Type 0 where
   pub clock : t .clock ≡ s .clock
   pub done : t .done ≡ s .done
 
+-- 9, 11 and 12 of manual firing have no reason: there is such a node, its count is not "4,294,967,295", "its input queue holds at least τ", and p more do not pass the
+-- capacity of its output queue, if any
+pub record Permits (c : Chain) (s : Run) (i : ℕ) : Type 0 where
+  pub node : i ≤ c .n
+  pub count : countAt s i ≢ 4294967295
+  pub threshold : (j : ℕ) → i ≡ suc j → τOf c j ≤ heldAt s j
+  pub room : i < c .n → heldAt s i + pOf c i ≤ line c i .capacity
+
 module _ (c : Chain) (s : Run) (i : ℕ) where
+  -- which are the conditions that manual firing is defined by
+  permits-is : Accepts c → May c s i ↔ Permits c s i
+  permits-is ok = (
+    λ m. record { node = m .node; count = m .countable; threshold = over-is c s i .0 (m .over); room = λ l. rw (capacity-is c (accepts-is c .0 ok) i l) (m .room l) },
+    λ m. record { node = m .node; countable = m .count; over = over-is c s i .1 (m .threshold); room = λ l. rw (capacity-is c (accepts-is c .0 ok) i l) at (m .room l) },
+  )
+
   -- "manual firing .. equal the published Processing Graph Method rules as document 01 condenses them" (004, definition 5.2): it is accepted exactly when the chain
-  -- is, the state passes 17, and 9, 11 and 12 are silent
-  pub fire-when : (fireAnswer c s i .number ≡ 0) ↔ (Accepts c × (((j : ℕ) → j < c .n → Passes c s j) × May c s i))
+  -- is, the state passes 17, and 9, 11 and 12 have no reason
+  pub fire-when : (fireAnswer c s i .number ≡ 0) ↔ (Accepts c × (((j : ℕ) → j < c .n → Passes c s j) × Permits c s i))
   unfolding fireAnswer runs.answered
   fire-when = Iff·trans (fire-accepts c s i) (
-    λ k. let a = accepts-is c .1 (k .0) in (a, (passes-is c s a .0 (k .1 .0), k .1 .1)),
-    λ k. (accepts-is c .0 (k .0), (passes-is c s (k .0) .1 (k .1 .0), k .1 .1)),
+    λ k. let a = accepts-is c .1 (k .0) in (a, (passes-is c s a .0 (k .1 .0), permits-is a .0 (k .1 .1))),
+    λ k. (accepts-is c .0 (k .0), (passes-is c s (k .0) .1 (k .1 .0), permits-is (k .0) .1 (k .1 .1))),
   )
 
   -- and what it then does to a state of 17 counts and 16 queues, as every state is

@@ -6,9 +6,10 @@
 --   last, minimum-by, minimum-as, largest-multiple
 --                            the residue of a queue, its minimum by it and by what else it is, and that it is a largest multiple
 --   may-run-is, run-quiet    two ways to say of a chain that it may run; and then none of the checks of a run speaks
---   silents-append           nor of two lists of checks in a row where none of either does
---   whole, all-slots, passes-is
---                            two ways to say of a state that it has all slots, and that it passes 17
+--   silents-append, -parts, -last
+--                            nor of two lists of checks in a row where none of either does, and only there; of a list with one check behind it
+--   whole, all-slots, passes-at, passes-is, over-is
+--                            two ways to say of a state that it has all slots, that it passes 17, and that a node in it is over threshold
 --   index-down               an index on the way down to the source
 --   taken, fed-by            what a firing takes, and a count from the one before it
 --   each-firing, one-firing  what holds of each firing of an order, from what holds of one of them, and back
@@ -34,7 +35,7 @@ use Rattle.ardenquill.specs.Chains.{row, rowOf, first, Silent, Silents, first-s
 use Rattle.ardenquill.specs.Files.{bytesOf, packedLength, header, rows, nodes, packed, roomCheck, writeRefusal, Output}
 use Rattle.ardenquill.specs.Analyses as sizes
 use Rattle.ardenquill.specs.Analyses.{gcd, gcd-pos-left, residue, Largest, residue-largest, xOf, yOf, source-rate, minimumOf, namingOf, capacityOf, marginOf, sizeBy, sizeOf, noSize, size-at, analysisOf, analyseAnswer, Accepted, analysed, Enough, runChecks, runRefusal, run-accepts}
-use Rattle.ardenquill.specs.Runs.{heldAt, freshRun, answered, fired, StateSound, Whole, Firing, firing-is, held-input, over-enough, AlikeChains, flat-alike, record-alike}
+use Rattle.ardenquill.specs.Runs.{heldAt, freshRun, answered, fired, StateSound, Whole, Firing, firing-is, held-input, over-enough, AlikeChains, flat-alike, record-alike, Over, Steady}
 use Rattle.ardenquill.specs.Histories.{after, Permitted, Prompt, EachFiring, each-before}
 use Rattle.ardenquill.specs.Immediate as immediate
 use Rattle.ardenquill.specs.Immediate.{F, fires, Reached, schedule, most, immediateRefusal, immediateAnswer, immediate-accepts, immediate-ran}
@@ -121,6 +122,15 @@ unfolding Silents
 silents-append [] qs a b = b
 silents-append (r ∷ rs) qs a b = (a .0, silents-append rs qs (a .1) b)
 
+pub silents-parts : (rs qs : List Refusal) → Silents (rs ++ qs) → Silents rs × Silents qs
+unfolding Silents
+silents-parts [] qs a = (tt, a)
+silents-parts (r ∷ rs) qs a = let p = silents-parts rs qs (a .1) in ((a .0, p .0), p .1)
+
+pub silents-last : (rs : List Refusal) (r : Refusal) → Silents (rs ++ (r ∷ [])) ↔ (Silents rs × Silent r)
+unfolding Silents
+silents-last rs r = (λ a. let p = silents-parts rs (r ∷ []) a in (p .0, p .1 .0), λ a. silents-append rs (r ∷ []) (a .0) (a .1, tt))
+
 -- two ways to say of a state that it has all slots
 pub whole : {s : Run} → AllSlots s → Whole s
 whole k = record { counts = k .counts; held = k .held; done = k .done }
@@ -128,12 +138,20 @@ whole k = record { counts = k .counts; held = k .held; done = k .done }
 pub all-slots : {s : Run} → Whole s → AllSlots s
 all-slots k = record { counts = k .counts; held = k .held; done = k .done }
 
--- and that it passes 17
-pub passes-is : (c : Chain) (s : Run) → Accepts c → StateSound c s ↔ ((j : ℕ) → j < c .n → Passes c s j)
-passes-is c s ok = (
-  λ k j l. record { balance = k j l .0 .0; capacity = rw (capacity-is c (accepts-is c .0 ok) j l) (k j l .0 .1); work = k j l .1 },
-  λ k j l. ((k j l .balance, rw (capacity-is c (accepts-is c .0 ok) j l) at (k j l .capacity)), k j l .work),
+-- and that it passes 17, at a queue and at all of them
+pub passes-at : (c : Chain) (s : Run) → Accepts c → (j : ℕ) → j < c .n → Steady c s j ↔ Passes c s j
+passes-at c s ok j l = (
+  λ k. record { balance = k .0 .0; capacity = rw (capacity-is c (accepts-is c .0 ok) j l) (k .0 .1); work = k .1 },
+  λ k. ((k .balance, rw (capacity-is c (accepts-is c .0 ok) j l) at (k .capacity)), k .work),
 )
+
+pub passes-is : (c : Chain) (s : Run) → Accepts c → StateSound c s ↔ ((j : ℕ) → j < c .n → Passes c s j)
+passes-is c s ok = (λ k j l. passes-at c s ok j l .0 (k j l), λ k j l. passes-at c s ok j l .1 (k j l))
+
+-- and that N_i may fire in it: "when its input queue holds at least τ; N_0 always"
+pub over-is : (c : Chain) (s : Run) (i : ℕ) → Over c s i ↔ ((j : ℕ) → i ≡ suc j → τOf c j ≤ heldAt s j)
+over-is c s zero = (λ o j e. absurd (omega arith), λ h. tt)
+over-is c s (suc q) = (λ o j e. subst (λ (m : ℕ). τOf c m ≤ heldAt s m) (omega arith) o, λ h. h q refl)
 
 -- N_j's index on the way down from N_(i+1) is that from N_i
 pub index-down : (c : Chain) (i k j : ℕ) → j ≤ i → index c (suc i) k j ≡ index c i (earlier (rowOf c i) k) j

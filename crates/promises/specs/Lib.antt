@@ -6,8 +6,11 @@ pub mod Laws
 pub mod ByTicks
 pub mod ByCounts
 pub mod Demand1
+pub mod RatesInNumbers
 pub mod Demand2
 pub mod TickInNumbers
+pub mod PlacesInNumbers
+pub mod RunsInNumbers
 pub mod HandedOut
 pub mod Demand3
 pub mod Beyond
