@@ -47,7 +47,8 @@
 --                            becomes k+1 (Ticks)
 --   run-clock, run-source, run-work, trace-rises, -source, -when, -apart, -first
 --                            of a clean one: its clock, how often the source has fired, how long the others have worked, and the instants of all firings
---   tick-when, SpentFirst, tick-nine
+--   Spent c s i, LowestOf    N_i's count is at its end (Replay); "lowest", in words (Order)
+--   tick-when, tick-nine
 --                            one tick: accepted when; and 9 of it
 --   tick-is, tick-overflows, -lacks, -cleans, -leaves, -clock, -ends, source-fires, source-rests
 --                            what it answers; each outcome exactly when; and what it leaves (and by numbers alone, TickInNumbers)
@@ -76,11 +77,12 @@ use Rattle.ardenquill.specs.Immediate as immediate
 use Rattle.ardenquill.specs.Immediate.{F, schedule, Follows, rule, immediateAnswer, immediate-accepts, permitted, counts-are-F}
 use Rattle.ardenquill.specs.Deadlines.{earlier, earlier-some, deadline, index, answeredDue, deadlineAnswer, deadline-accepts, deadline-due}
 use Rattle.ardenquill.specs.Ticks as ticks
-use Rattle.ardenquill.specs.Ticks.{kindOf, tickOf, atOf, outcomeOf, tickAnswer, deadlineRunAnswer, ranAs, left, tick-accepts, tick-9, deadline-run-accepts, TickOnce, once-counts, once-keeps, Spills, Lacks, OneTick, one-overflows, one-lacks, one-cleans, one-stays, one-leaves, TicksTo, answer-one, answer-exactly, Ends, HowMany, total, Waits, Rising, trace, entriesOf, FiredAt, source-entries, entries-when, entries-apart, entries-first, entries-rise}
+use Rattle.ardenquill.specs.Ticks.{kindOf, tickOf, atOf, outcomeOf, tickAnswer, deadlineRunAnswer, ranAs, left, tickRefusal, tick-accepts, tick-9, deadline-run-accepts, TickOnce, once-counts, once-keeps, Spills, Lacks, OneTick, one-overflows, one-lacks, one-cleans, one-stays, one-leaves, TicksTo, answer-one, answer-exactly, Ends, HowMany, total, Waits, Rising, trace, entriesOf, FiredAt, source-entries, entries-when, entries-apart, entries-first, entries-rise}
 use Rattle.ardenquill.specs.Flat.{coded, flat}
-use Rattle.ardenquill.specs.Records.{Refusal, Chain, ChainAnswer, LengthAnswer, Analysis, Run, Outcome, Clean, Ticked, TickAnswer}
+use Rattle.ardenquill.specs.Records.{Chain, ChainAnswer, LengthAnswer, Analysis, Run, Outcome, Clean, Ticked, TickAnswer}
 use Rattle.ardenquill.specs.Reports.{reportText, reportRefusal, report-accepts}
-use Rattle.promises.specs.Replay.{pOf, τOf, cOf, Accepts, line, rateX, rateY, replayAnswer, Fires, AllSlots, Passes, Ample, Low, NearestFirst, Runs, accepts-is, fires-is}
+use Rattle.promises.specs.Order.{LowestOf, said}
+use Rattle.promises.specs.Replay.{pOf, τOf, cOf, Spent, Accepts, line, rateX, rateY, replayAnswer, Fires, AllSlots, Passes, Ample, Low, NearestFirst, Runs, accepts-is, fires-is}
 use Rattle.promises.specs.Laws.{report-is, x-is, y-is, by-is, capacity-is, rate-x-is, rate-y-is, last, minimum-by, minimum-as, largest-multiple, may-run-is, run-quiet, silents-append, whole, passes-is, index-down, taken, state-is, moment, parts, sound, ends-in, keeps, minimum-is, margin-is, output-silent, coded-overflowed, coded-undated, coded-clean, one-firing, over-is}
 use Rattle.promises.specs.ByTicks.{DeadlineRuns, ticksFrom, ticks-are-run}
 use Rattle.promises.specs.Outcomes.{Says, Cleanly, OverflowedAt, UndatedAt, cleanly-is, overflowed-is, undated-is, says-tick}
@@ -422,12 +424,6 @@ module _ (c : Chain) (T : ℕ) (ran : DeadlineRuns c T) where
       pub trace-first : 0 < length (entriesOf c T (suc j)) → workOf c j ≤ getD (entriesOf c T (suc j)) 0 0
       trace-first = entries-first c T ran z j l
 
--- "a count at 4,294,967,295 .., place the lowest such node"
-pub record SpentFirst (c : Chain) (s : Run) (L : ℕ) : Type 0 where
-  pub node : L ≤ c .n
-  pub spent : countAt s L ≡ 4294967295
-  pub before : (j : ℕ) → j < L → countAt s j ≢ 4294967295
-
 module _ (c : Chain) (s : Run) where
   -- a tick is accepted exactly when the chain is, no capacity is below the minimum, the state passes 17, and neither a "clock of 1,000,000 or more" nor "a count at
   -- 4,294,967,295" is 9
@@ -441,15 +437,15 @@ module _ (c : Chain) (s : Run) where
 
   -- "A tick handed a clock of 1,000,000 or more is 9, place 0; then a count at 4,294,967,295 is 9, place the lowest such node", where nothing earlier is refused
   pub tick-nine : Accepts c × ((j : ℕ) → j < c .n → Ample c j) → ((j : ℕ) → j < c .n → Passes c s j) → (L : ℕ)
-      → ((tickAnswer c s .number ≡ 9) × (tickAnswer c s .place ≡ L)) ↔ (((1000000 ≤ s .clock) × (L ≡ 0)) ⊎ ((s .clock < 1000000) × SpentFirst c s L))
+      → ((tickAnswer c s .number ≡ 9) × (tickAnswer c s .place ≡ L)) ↔ (((1000000 ≤ s .clock) × (L ≡ 0)) ⊎ ((s .clock < 1000000) × LowestOf (Spent c s) L))
   unfolding Silents tickAnswer outcomeOf
-  tick-nine may pass L = (
-    λ h. ⊎-elim (λ a. inl a) (λ a. inr (a .0, record { node = a .1 .node; spent = a .1 .spent; before = a .1 .before })) (tick-9 c s L .0 (λ k. record { number = h .0 k; place = h .1 k }) .1),
-    λ h.
-        let quiet = silents-append (runChecks c) (stateCheck c s ∷ []) (run-quiet c may) (state-silent c s .1 (passes-is c s (may .0) .1 pass), tt) in
-        let e = tick-9 c s L .1 (quiet, ⊎-elim (λ a. inl a) (λ a. inr (a .0, record { node = a .1 .node; spent = a .1 .spent; before = a .1 .before })) h) in
-        (ap (λ (r : Refusal). r .number) e, ap (λ (r : Refusal). r .place) e),
-  )
+  tick-nine may pass L = Iff·trans (said (tickRefusal c s) 9 L) (Iff·trans (tick-9 c s L) (
+    λ h. ⊎-elim (λ a. inl a) (λ a. inr (a .0, record { has = (a .1 .node, a .1 .spent); before = λ j l t. a .1 .before j l (t .1) })) (h .1),
+    λ h. (
+      silents-append (runChecks c) (stateCheck c s ∷ []) (run-quiet c may) (state-silent c s .1 (passes-is c s (may .0) .1 pass), tt),
+      ⊎-elim (λ a. inl a) (λ a. inr (a .0, record { node = a .1 .has .0; spent = a .1 .has .1; before = λ j l e. a .1 .before j l (omega (arith, a .1 .has .0), e) })) h,
+    ),
+  ))
 
   -- one that is, of a state with all its slots
   module _ (slots : AllSlots s) (ok : tickAnswer c s .number ≡ 0) where

@@ -15,7 +15,7 @@
 --   fire-seventeen, tick-seventeen
 --                            when 17 is answered
 --   Spent c s i, Starved c s i, Cramped c s i
---                            9, 11 and 12 of a manual firing: the count of N_i is at its end; its input queue is below threshold; its output queue has no room
+--                            9, 11 and 12 of a manual firing: the count of N_i is at its end (Replay); its input queue is below threshold; its output queue has no room
 --   fire-nine, -eleven, -twelve
 --                            when each is answered
 --   factory-fourteen, factory-when
@@ -40,7 +40,7 @@ use Rattle.ardenquill.specs.Files.{packed, writeRefusal, Output}
 use Rattle.ardenquill.specs.Reports.{reportText, reportRefusal}
 use Rattle.ardenquill.specs.Records.{Chain, LengthAnswer, Run}
 use Rattle.promises.specs.Order.{not-listed, LowestOf, said}
-use Rattle.promises.specs.Replay.{pOf, τOf, cOf, Accepts, line, Passes, Ample, accepts-is}
+use Rattle.promises.specs.Replay.{pOf, τOf, cOf, Accepts, line, Spent, Passes, Ample, accepts-is}
 use Rattle.promises.specs.Laws.{minimum-is, capacity-is, may-run-is, silents-last, passes-at, passes-is, over-is}
 use Rattle.promises.specs.Demand1.{factory-numbers, analyse-numbers, fresh-numbers, fire-numbers, write-numbers, report-numbers}
 
@@ -193,10 +193,6 @@ module _ (c : Chain) (s : Run) where
     λ h. let may = checked-silent c .0 (h .0) in (may, broken-first (may .0) L .0 (h .1)),
     λ h. (checked-silent c .1 (h .0), broken-first (h .0 .0) L .1 (h .1)),
   ))
-
--- 9's "once its count is 4,294,967,295", of a node N_i
-abbrev pub Spent : Chain → Run → ℕ → Type 0
-Spent c s i = (i ≤ c .n) × (countAt s i ≡ 4294967295)
 
 -- 11's "node not over threshold": N_i has an input queue, and that holds less than τ
 pub record Starved (c : Chain) (s : Run) (i : ℕ) : Type 0 where

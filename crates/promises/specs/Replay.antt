@@ -13,6 +13,7 @@
 --                            P holds of the state at every moment of h, at some moment of h; a moment is the end of what h begins with
 --   AllSlots s               17 counts, 16 queues and 16 nodes' work, as every state has
 --   Passes c s j             none of 17's reasons holds at queue j
+--   Spent c s i              9's reason holds of N_i
 --   Ample c i                queue i's capacity, if written, is not below its reported minimum
 --   Low c s, LowAt c s i     in the state s no queue's consumer is over threshold, so that only the source may fire; queue i's is not
 --   AtOnce c h               no node fires while the node that it feeds is over threshold
@@ -105,6 +106,10 @@ pub record Passes (c : Chain) (s : Run) (j : ℕ) : Type 0 where
   pub balance : start (rowOf c j) + pOf c j * countAt s j ≡ heldAt s j + cOf c j * countAt s (suc j)
   pub capacity : heldAt s j ≤ line c j .capacity
   pub work : doneAt s j < workOf c j
+
+-- 9's "once its count is 4,294,967,295", of a node N_i
+abbrev pub Spent : Chain → Run → ℕ → Type 0
+Spent c s i = (i ≤ c .n) × (countAt s i ≡ 4294967295)
 
 -- the node that N_i feeds, if any, is below threshold
 abbrev pub LowAt : Chain → Run → ℕ → Type 0
