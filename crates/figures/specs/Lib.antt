@@ -1,2 +1,4 @@
 pub mod Questions
+pub mod Literals
+pub mod Files
 pub mod Figures
