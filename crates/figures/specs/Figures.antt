@@ -18,6 +18,8 @@ use Rattle.ardenquill.specs.Records.{Chain, Run}
 use Rattle.figures.specs.Questions.{Question, analyse, checkedForRun, fresh, fire, immediate, deadline, tick, tickForC, deadlineRun, deadlineRunForC, deadlineRunRefusal, answerTo, chainNumbers, stateNumbers}
 use Rattle.figures.specs.Literals.{Row, repeated, row, chain, feed, permeate, flush, run, text, refused, stateIs, sizesAre, keeps, cleanAt, overflowedAt, undatedAt}
 use Rattle.figures.specs.Files.{files, reports}
+use Rattle.figures.specs.ChainRefusals.{chainRefusals, byFile, byRecord, accepted}
+use Rattle.figures.specs.RunRefusals.{runRefusals, byState}
 
 -- what the figures change in the factory chains
 abbrev pub permeateWritten : Chain
@@ -105,7 +107,7 @@ scopeFigures =
 
 -- the questions with their answers
 abbrev pub table : List Row
-table = scopeFigures ++ (files ++ reports)
+table = scopeFigures ++ (files ++ (reports ++ (chainRefusals ++ runRefusals)))
 
 -- whether two lists of numbers are the same
 unfoldable pub same : List ℕ → List ℕ → Bool
@@ -140,5 +142,5 @@ right-rows (r ∷ rs) d h (suc i) l = right-rows rs d (both (same (r .1) (answer
 
 -- every figure of the table is right
 pub figures : (i : ℕ) → i < length table → getD table i (analyse feed, []) .1 ≡ answerTo (getD table i (analyse feed, []) .0)
-unfolding allRight chainNumbers stateNumbers repeated text flatMap
+unfolding allRight chainNumbers stateNumbers repeated text flatMap byFile byRecord accepted byState
 figures = right-rows table (analyse feed, []) tt

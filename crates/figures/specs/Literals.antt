@@ -13,7 +13,8 @@
 --   chainIs c, stateIs s     an answer that is not refused: a chain, a run state
 --   sizesAre n lines busy cycle
 --                            an answer that is not refused: an analysis, its n lines one after the other
---   keeps N L s              a refusal that hands the run state back
+--   keeps N L s, tickKeeps N L s
+--                            a refusal that hands the run state back, of a manual firing and of a tick
 --   ends N s values, cleanAt s, overflowedAt s t q, undatedAt s t i
 --                            an outcome and the state that it leaves: clean, overflowed at tick t and queue q, 13 at tick t and node i
 use mathlib.Core.List.{List, [], _∷_, _++_}
@@ -87,6 +88,9 @@ sizesAre n lines busy cycle = 0 ∷ 0 ∷ n ∷ (filled 112 lines ++ (busy ∷ c
 -- "run state as before"
 abbrev pub keeps : ℕ → ℕ → Run → List ℕ
 keeps N L s = N ∷ L ∷ stateNumbers s
+
+abbrev pub tickKeeps : ℕ → ℕ → Run → List ℕ
+tickKeeps N L s = N ∷ L ∷ 0 ∷ stateNumbers s
 
 -- the outcomes of a tick and of a deadline run
 abbrev pub ends : ℕ → Run → List ℕ → List ℕ
