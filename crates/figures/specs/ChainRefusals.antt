@@ -18,9 +18,9 @@ use mathlib.Core.List.{List, [], _∷_, _++_, flatMap}
 use Prim.Native.Nat.{ℕ}
 use lib.ListN.{take, replicate}
 use Rattle.ardenquill.specs.Records.{Queue, Chain, Run}
-use Rattle.figures.specs.Questions.{read, write, report, analyse, checkedForRun, fresh, fire, immediate, deadline, tick, deadlineRun, stateNumbers}
-use Rattle.figures.specs.Literals.{Row, repeated, row, chainOf, chain, feed, permeate, run, text, changed, refused, chainIs, stateIs, sizesAre, keeps, tickKeeps, cleanAt}
-use Rattle.figures.specs.Files.{feedFile, apartFile, mixed, full, fullFile}
+use Rattle.figures.specs.Questions.{read, write, report, analyse, checkedForRun, fresh, fire, immediate, deadline, tick, deadlineRun}
+use Rattle.figures.specs.Literals.{Row, repeated, row, chainOf, chain, feed, run, text, changed, refused, chainIs, stateIs, sizesAre, keeps, tickKeeps, cleanAt}
+use Rattle.figures.specs.Files.{feedFile, apartFile, full, fullFile}
 
 -- a file or a chain with number and place
 abbrev pub Fault : Type 0 → Type 0
@@ -30,6 +30,7 @@ Fault A = A × (ℕ × ℕ)
 unfoldable pub byFile : Fault (List ℕ) → List Row
 byFile (f, (N, L)) = (read f, refused N L 98) ∷ (report f (7 ∷ []), N ∷ L ∷ 0 ∷ 7 ∷ []) ∷ []
 
+-- every slot 4,294,967,295
 abbrev pub worst : Run
 worst = run 4294967295 (replicate 17 4294967295) (replicate 16 4294967295) (replicate 16 4294967295)
 
@@ -87,6 +88,7 @@ largestFile =
     ∷ 255 ∷ 255 ∷ 0 ∷ 0 ∷ 255 ∷ 255 ∷ 0 ∷ 0 ∷ 255 ∷ 255 ∷ 0 ∷ 0 ∷ 64 ∷ 66 ∷ 15 ∷ 0 ∷ 0 ∷ 0 ∷ 0 ∷ 0
     ∷ 64 ∷ 66 ∷ 15 ∷ 0 ∷ []
 
+-- B at its smallest is 0
 abbrev pub smallest : Chain
 smallest = chain 1 (row 1 1 1 0 0 ∷ []) (1 ∷ [])
 
@@ -165,6 +167,7 @@ badFiles =
     ∷ (changed (changed apartFile 60 (3 ∷ 5 ∷ [])) 40 (5 ∷ 8 ∷ []), (5, 44))
     ∷ []
 
+-- chains that differ from fine ones in the numbers written
 abbrev pub one : ℕ → ℕ → ℕ → ℕ → ℕ → ℕ → ℕ → Chain
 one y p τ c B r e = chain y (row p τ c B r ∷ []) (e ∷ [])
 
@@ -222,6 +225,7 @@ badChains =
     ∷ (one 1000000 1 65520 65521 0 0 1, (5, 28))
     ∷ []
 
+-- "analysis checks also 6, 7"
 abbrev pub badRates : List (Fault Chain)
 badRates =
     -- 6: y 131,072 × 32,768 = 4,294,967,296 at N_1; at N_2; at each of three nodes; x 32,768 × 32,768 × 4 = 4,294,967,296 at N_3, where 7 would be said, too
@@ -249,23 +253,26 @@ badCapacities =
 abbrev pub chainRefusals : List Row
 chainRefusals =
     flatMap byFile badFiles ++ (flatMap byRecord badChains ++ (flatMap byAnalysis badRates ++ (flatMap byRun badCapacities ++ (
-      flatMap accepted (smallest ∷ largest ∷ full ∷ one 1 1 1 1 1 0 1 ∷ one 10 4 7 3 10 0 2 ∷ one 5 1 1 1 0 0 5 ∷ chain 5 (row 1 1 1 0 0 ∷ row 1 1 1 0 0 ∷ []) (2 ∷ 3 ∷ []) ∷ []) ++ (
-        -- length 4,096, tables that touch, every number at the ends of its range
-        (read (longFile (0 ∷ 16 ∷ []) 4052), chainIs feed)
-        ∷ (read turnedFile, chainIs feed)
-        ∷ (read largestFile, chainIs largest)
-        ∷ (read smallestFile, chainIs smallest)
-        -- 6 and 7 of a report, before 10: y 131,072 × 65,535; 32 of 30
-        ∷ (report (changed (changed largestFile 4 (0 ∷ 0 ∷ 2 ∷ [])) 20 (1 ∷ 0 ∷ [])) (7 ∷ []), 6 ∷ 1 ∷ 0 ∷ 7 ∷ [])
-        ∷ (report (changed feedFile 40 (8 ∷ [])) (7 ∷ []), 7 ∷ 0 ∷ 0 ∷ 7 ∷ [])
-        -- "exact busy above y_n": 28 of 30
-        ∷ (report (changed feedFile 40 (7 ∷ [])) (replicate 60 7), 0 ∷ 0 ∷ 60 ∷ text "queue,x,y,minimum,capacity,margin\n0,4,30,10,10,0\nbusy,28,30\n")
-        -- y 65,537 × 65,535 = 4,294,967,295
-        ∷ (analyse (one 65537 1 65535 65535 0 0 1), sizesAre 1 (1 ∷ 4294967295 ∷ 65535 ∷ 65535 ∷ 65535 ∷ 0 ∷ 0 ∷ []) 1 4294967295)
-        -- 8 is not said of an analysis, of a fresh start, of a manual firing
-        ∷ (analyse (one 10 4 7 3 9 0 2), sizesAre 1 (4 ∷ 30 ∷ 10 ∷ 4 ∷ 9 ∷ 1 ∷ 1 ∷ []) 8 30)
-        ∷ (fresh (one 10 4 7 3 9 0 2), stateIs (run 0 [] [] []))
-        ∷ (fire (one 10 4 7 3 9 0 2) (run 0 [] [] []) 0, stateIs (run 0 (1 ∷ []) (4 ∷ []) []))
-        ∷ []
-      )
+    flatMap accepted (smallest ∷ largest ∷ full ∷ one 1 1 1 1 1 0 1 ∷ one 10 4 7 3 10 0 2 ∷ one 5 1 1 1 0 0 5 ∷ chain 5 (row 1 1 1 0 0 ∷ row 1 1 1 0 0 ∷ []) (2 ∷ 3 ∷ []) ∷ []) ++ (
+    -- length 4,096, tables that touch, every number at the ends of its range
+    (read (longFile (0 ∷ 16 ∷ []) 4052), chainIs feed)
+    ∷ (read turnedFile, chainIs feed)
+    ∷ (read largestFile, chainIs largest)
+    ∷ (read smallestFile, chainIs smallest)
+    -- 6 and 7 of a report, before 10: y 131,072 × 65,535; 32 of 30
+    ∷ (report (changed (changed largestFile 4 (0 ∷ 0 ∷ 2 ∷ [])) 20 (1 ∷ 0 ∷ [])) (7 ∷ []), 6 ∷ 1 ∷ 0 ∷ 7 ∷ [])
+    ∷ (report (changed feedFile 40 (8 ∷ [])) (7 ∷ []), 7 ∷ 0 ∷ 0 ∷ 7 ∷ [])
+    -- "exact busy above y_n": 28 of 30
+    ∷ (report (changed feedFile 40 (7 ∷ [])) (replicate 60 7), 0 ∷ 0 ∷ 60 ∷ text "queue,x,y,minimum,capacity,margin\n0,4,30,10,10,0\nbusy,28,30\n")
+    -- y 65,537 × 65,535 = 4,294,967,295
+    ∷ (analyse (one 65537 1 65535 65535 0 0 1), sizesAre 1 (1 ∷ 4294967295 ∷ 65535 ∷ 65535 ∷ 65535 ∷ 0 ∷ 0 ∷ []) 1 4294967295)
+    -- neither 6 nor 7 is said of a record that is written
+    ∷ (write (one 131072 1 32768 32768 0 0 1) [], 10 ∷ 44 ∷ 0 ∷ [])
+    ∷ (write (one 5 1 1 1 0 0 6) [], 10 ∷ 44 ∷ 0 ∷ [])
+    -- 8 is not said of an analysis, of a fresh start, of a manual firing
+    ∷ (analyse (one 10 4 7 3 9 0 2), sizesAre 1 (4 ∷ 30 ∷ 10 ∷ 4 ∷ 9 ∷ 1 ∷ 1 ∷ []) 8 30)
+    ∷ (fresh (one 10 4 7 3 9 0 2), stateIs (run 0 [] [] []))
+    ∷ (fire (one 10 4 7 3 9 0 2) (run 0 [] [] []) 0, stateIs (run 0 (1 ∷ []) (4 ∷ []) []))
+    ∷ []
+    )
     ))))

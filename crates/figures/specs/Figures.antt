@@ -3,7 +3,8 @@
 --                            what the figures change in the factory chains, and P10's chain
 --   dueFirst                 a chain in whose run deadlines decide
 --   late, lateRun            a chain and a state whose node 1 is over threshold and has no deadline
---   scopeFigures             P1 to P10, and a run of each kind
+--   example                  000's deadline example
+--   scopeFigures             P1 to P10, that example, and a run of each kind
 --   table                    the questions with their answers: these, and those of Files, ChainRefusals and RunRefusals
 --   same, allRight           the computed test
 --   figures                  the statement: what the test decides of the table
@@ -13,11 +14,11 @@ use mathlib.Core.List.{List, [], _∷_, _++_, flatMap}
 use Prim.Native.Nat.{ℕ, zero, suc, _<_}
 use native.Mathlib.Omega.{arith}
 use lib.Dec.{T, eqb, eqb→eq}
-use lib.ListN.{length, getD}
+use lib.ListN.{length, getD, replicate}
 use Rattle.ardenquill.specs.Records.{Chain, Run}
-use Rattle.figures.specs.Questions.{Question, analyse, checkedForRun, fresh, fire, immediate, deadline, tick, tickForC, deadlineRun, deadlineRunForC, deadlineRunRefusal, answerTo, chainNumbers, stateNumbers}
+use Rattle.figures.specs.Questions.{analyse, checkedForRun, fresh, fire, immediate, deadline, tick, tickForC, deadlineRun, deadlineRunForC, deadlineRunRefusal, answerTo, chainNumbers, stateNumbers}
 use Rattle.figures.specs.Literals.{Row, repeated, row, chain, feed, permeate, flush, run, text, refused, stateIs, sizesAre, keeps, cleanAt, overflowedAt, undatedAt}
-use Rattle.figures.specs.Files.{files, reports}
+use Rattle.figures.specs.Files.{full, files, reports}
 use Rattle.figures.specs.ChainRefusals.{chainRefusals, byFile, byRecord, accepted}
 use Rattle.figures.specs.RunRefusals.{runRefusals, byState}
 
@@ -44,6 +45,10 @@ late = chain 10 (row 1 1 1 10 0 ∷ []) (1 ∷ [])
 -- and it is over threshold at a clock at which the source does not fire
 abbrev pub lateRun : Run
 lateRun = run 1 (4294967291 ∷ 4294967290 ∷ []) (1 ∷ []) []
+
+-- 000's: "(118,118,118), three of (256,256,256), (256,32768,16384), (32768,128,128), B all 0, y=1000, e all 1"
+abbrev pub example : Chain
+example = chain 1000 (row 118 118 118 0 0 ∷ row 256 256 256 0 0 ∷ row 256 256 256 0 0 ∷ row 256 256 256 0 0 ∷ row 256 32768 16384 0 0 ∷ row 32768 128 128 0 0 ∷ []) (replicate 6 1)
 
 -- of an analysis: for each queue x, y, minimum, naming count, capacity, sign and size of the margin; then busy and cycle. Of a run state: the clock; the
 -- counts from the source on; what the queues hold; the work done
@@ -103,6 +108,17 @@ scopeFigures =
     ∷ (deadlineRunRefusal feed 1000000, refused 0 0 0)
     ∷ (deadline feed 1 1, 0 ∷ 0 ∷ 20 ∷ [])
     ∷ (deadline feed 1 0, refused 11 1 1)
+    -- 16 queues, which one token passes in 16 ticks
+    ∷ (immediate full 2, stateIs (run 0 (replicate 17 2) [] []))
+    ∷ (deadlineRun full 17, cleanAt (run 17 (2 ∷ 2 ∷ replicate 15 1) (0 ∷ 1 ∷ []) []))
+    ∷ (deadline full 16 1, 0 ∷ 0 ∷ 256 ∷ [])
+    -- 000's deadline example
+    ∷ (deadline example 1 1, 0 ∷ 0 ∷ 1000 ∷ [])
+    ∷ (deadline example 1 2, 0 ∷ 0 ∷ 2000 ∷ [])
+    ∷ (deadline example 5 1, 0 ∷ 0 ∷ 132000 ∷ [])
+    ∷ (deadline example 5 2, 0 ∷ 0 ∷ 196000 ∷ [])
+    ∷ (deadline example 6 1, 0 ∷ 0 ∷ 196000 ∷ [])
+    ∷ (deadline example 6 2, 0 ∷ 0 ∷ 196000 ∷ [])
     ∷ []
 
 -- the questions with their answers

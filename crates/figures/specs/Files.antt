@@ -72,6 +72,19 @@ fullFile =
     16 ∷ 0 ∷ 0 ∷ 0 ∷ 16 ∷ 0 ∷ 0 ∷ 0 ∷ 20 ∷ 0 ∷ 0 ∷ 0 ∷ 84 ∷ 1 ∷ 0 ∷ 0 ∷ 148 ∷ 1 ∷ 0 ∷ 0
     ∷ (repeated 16 (1 ∷ 0 ∷ 0 ∷ 0 ∷ 1 ∷ 0 ∷ 0 ∷ 0 ∷ 1 ∷ 0 ∷ 0 ∷ 0 ∷ 0 ∷ 0 ∷ 0 ∷ 0 ∷ 0 ∷ 0 ∷ 0 ∷ 0 ∷ []) ++ repeated 16 (1 ∷ 0 ∷ 0 ∷ 0 ∷ []))
 
+-- y 100; (6,9,4,20) (5,12,3,9) (4,25,14,1000); e 2, 3, 4
+abbrev pub short : Chain
+short = chain 100 (row 6 9 4 20 0 ∷ row 5 12 3 9 0 ∷ row 4 25 14 1000 0 ∷ []) (2 ∷ 3 ∷ 4 ∷ [])
+
+-- 1,000 is 232 + 3 × 256
+abbrev pub shortFile : List ℕ
+shortFile =
+    3 ∷ 0 ∷ 0 ∷ 0 ∷ 100 ∷ 0 ∷ 0 ∷ 0 ∷ 20 ∷ 0 ∷ 0 ∷ 0 ∷ 80 ∷ 0 ∷ 0 ∷ 0 ∷ 92 ∷ 0 ∷ 0 ∷ 0
+    ∷ 6 ∷ 0 ∷ 0 ∷ 0 ∷ 9 ∷ 0 ∷ 0 ∷ 0 ∷ 4 ∷ 0 ∷ 0 ∷ 0 ∷ 20 ∷ 0 ∷ 0 ∷ 0 ∷ 0 ∷ 0 ∷ 0 ∷ 0
+    ∷ 5 ∷ 0 ∷ 0 ∷ 0 ∷ 12 ∷ 0 ∷ 0 ∷ 0 ∷ 3 ∷ 0 ∷ 0 ∷ 0 ∷ 9 ∷ 0 ∷ 0 ∷ 0 ∷ 0 ∷ 0 ∷ 0 ∷ 0
+    ∷ 4 ∷ 0 ∷ 0 ∷ 0 ∷ 25 ∷ 0 ∷ 0 ∷ 0 ∷ 14 ∷ 0 ∷ 0 ∷ 0 ∷ 232 ∷ 3 ∷ 0 ∷ 0 ∷ 0 ∷ 0 ∷ 0 ∷ 0
+    ∷ 2 ∷ 0 ∷ 0 ∷ 0 ∷ 3 ∷ 0 ∷ 0 ∷ 0 ∷ 4 ∷ 0 ∷ 0 ∷ 0 ∷ []
+
 -- what is read, made and written; lent bytes are 7
 abbrev pub files : List Row
 files =
@@ -92,6 +105,8 @@ files =
     ∷ (write mixed (replicate 68 7), 0 ∷ 0 ∷ 68 ∷ mixedFile)
     ∷ (write mixedPast (replicate 68 7), 0 ∷ 0 ∷ 68 ∷ mixedFile)
     ∷ (write full (replicate 405 7), 0 ∷ 0 ∷ 404 ∷ (fullFile ++ (7 ∷ [])))
+    ∷ (write short (replicate 92 7), 0 ∷ 0 ∷ 92 ∷ shortFile)
+    ∷ (read shortFile, chainIs short)
     -- 10, place the "bytes needed"
     ∷ (write feed (replicate 43 7), 10 ∷ 44 ∷ 0 ∷ replicate 43 7)
     ∷ (write full [], 10 ∷ 404 ∷ 0 ∷ [])
@@ -100,20 +115,7 @@ files =
     ∷ (factory 4294967295, refused 14 4294967295 98)
     ∷ []
 
--- y 100; (6,9,4,20) (5,12,3,9) (4,25,14,1000); e 2, 3, 4
-abbrev pub short : Chain
-short = chain 100 (row 6 9 4 20 0 ∷ row 5 12 3 9 0 ∷ row 4 25 14 1000 0 ∷ []) (2 ∷ 3 ∷ 4 ∷ [])
-
--- 1,000 is 232 + 3 × 256
-abbrev pub shortFile : List ℕ
-shortFile =
-    3 ∷ 0 ∷ 0 ∷ 0 ∷ 100 ∷ 0 ∷ 0 ∷ 0 ∷ 20 ∷ 0 ∷ 0 ∷ 0 ∷ 80 ∷ 0 ∷ 0 ∷ 0 ∷ 92 ∷ 0 ∷ 0 ∷ 0
-    ∷ 6 ∷ 0 ∷ 0 ∷ 0 ∷ 9 ∷ 0 ∷ 0 ∷ 0 ∷ 4 ∷ 0 ∷ 0 ∷ 0 ∷ 20 ∷ 0 ∷ 0 ∷ 0 ∷ 0 ∷ 0 ∷ 0 ∷ 0
-    ∷ 5 ∷ 0 ∷ 0 ∷ 0 ∷ 12 ∷ 0 ∷ 0 ∷ 0 ∷ 3 ∷ 0 ∷ 0 ∷ 0 ∷ 9 ∷ 0 ∷ 0 ∷ 0 ∷ 0 ∷ 0 ∷ 0 ∷ 0
-    ∷ 4 ∷ 0 ∷ 0 ∷ 0 ∷ 25 ∷ 0 ∷ 0 ∷ 0 ∷ 14 ∷ 0 ∷ 0 ∷ 0 ∷ 232 ∷ 3 ∷ 0 ∷ 0 ∷ 0 ∷ 0 ∷ 0 ∷ 0
-    ∷ 2 ∷ 0 ∷ 0 ∷ 0 ∷ 3 ∷ 0 ∷ 0 ∷ 0 ∷ 4 ∷ 0 ∷ 0 ∷ 0 ∷ []
-
--- "the first line is always `queue,x,y,minimum,capacity,margin`", as 01 has it and byte by byte
+-- "the first line is always `queue,x,y,minimum,capacity,margin`"
 abbrev pub heading : List ℕ
 heading = text "queue,x,y,minimum,capacity,margin\n"
 
@@ -125,7 +127,13 @@ reports =
     ∷ (report feedFile (replicate 58 7), 10 ∷ 59 ∷ 0 ∷ replicate 58 7)
     ∷ (report permeateFile (replicate 74 7), 0 ∷ 0 ∷ 73 ∷ (text "queue,x,y,minimum,capacity,margin\n0,4,15,10,10,0\n1,6,15,6,6,0\nbusy,10,15\n" ++ (7 ∷ [])))
     ∷ (report shortFile (replicate 102 7), 0 ∷ 0 ∷ 102 ∷ text "queue,x,y,minimum,capacity,margin\n0,3,200,14,20,6\n1,5,200,16,9,-7\n2,10,1400,28,1000,972\nbusy,187,1400\n")
-    -- the same as an analysis, with the naming counts
+    ∷ (
+      report fullFile (replicate 259 7),
+      0 ∷ 0 ∷ 259
+          ∷ (heading ++ (text "0,1,16,1,1,0\n1,1,16,1,1,0\n2,1,16,1,1,0\n3,1,16,1,1,0\n4,1,16,1,1,0\n5,1,16,1,1,0\n6,1,16,1,1,0\n7,1,16,1,1,0\n8,1,16,1,1,0\n9,1,16,1,1,0\n"
+          ++ text "10,1,16,1,1,0\n11,1,16,1,1,0\n12,1,16,1,1,0\n13,1,16,1,1,0\n14,1,16,1,1,0\n15,1,16,1,1,0\nbusy,16,16\n")),
+    )
+    -- two of these as analyses, with the naming counts
     ∷ (analyse short, sizesAre 3 (3 ∷ 200 ∷ 14 ∷ 3 ∷ 20 ∷ 0 ∷ 6 ∷ 5 ∷ 200 ∷ 16 ∷ 5 ∷ 9 ∷ 1 ∷ 7 ∷ 10 ∷ 1400 ∷ 28 ∷ 10 ∷ 1000 ∷ 0 ∷ 972 ∷ []) 187 1400)
     ∷ (analyse full, sizesAre 16 (repeated 16 (1 ∷ 16 ∷ 1 ∷ 1 ∷ 1 ∷ 0 ∷ 0 ∷ [])) 16 16)
     -- "a refusal prints only the line `refused,number,place`"
@@ -133,7 +141,7 @@ reports =
     ∷ (refusalLine 4 28 (replicate 12 7), 10 ∷ 13 ∷ 0 ∷ replicate 12 7)
     ∷ (refusalLine 0 1000 (replicate 16 7), 0 ∷ 0 ∷ 15 ∷ (text "refused,0,1000\n" ++ (7 ∷ [])))
     ∷ (refusalLine 4294967295 4294967295 (replicate 30 7), 0 ∷ 0 ∷ 30 ∷ text "refused,4294967295,4294967295\n")
-    -- a report begins with the whole first line
+    -- a report begins with the whole first line, which is these bytes
     ∷ (headed heading, 1 ∷ [])
     ∷ (headed (113 ∷ 117 ∷ 101 ∷ 117 ∷ 101 ∷ 44 ∷ 120 ∷ 44 ∷ 121 ∷ 44 ∷ 109 ∷ 105 ∷ 110 ∷ 105 ∷ 109 ∷ 117 ∷ 109 ∷ 44 ∷ 99 ∷ 97 ∷ 112 ∷ 97 ∷ 99 ∷ 105 ∷ 116 ∷ 121 ∷ 44 ∷ 109 ∷ 97 ∷ 114 ∷ 103 ∷ 105 ∷ 110 ∷ 10 ∷ 0 ∷ []), 1 ∷ [])
     ∷ (headed (text "queue,x,y,minimum,capacity,margin"), 0 ∷ [])

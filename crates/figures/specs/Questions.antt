@@ -5,12 +5,12 @@
 --                            a row's five words; n, the period, the words of the 16 rows, the 16 execution times
 --   sizeNumbers q            a queue's line: x, y, minimum, naming count, capacity, signed margin
 --   stateNumbers s           a run state: the clock, the 17 counts, what the 16 queues hold, the 16 work dones
---   made r, analysed r, state r
+--   madeChain r, analysed r, state r
 --                            number and place, then a chain, the 16 lines with n before and busy and cycle behind, or a run state
 --   outcome r                the answer of a tick or a deadline run: number, place, the outcome's number, a run state, the outcome's values
---   told r                   the same as C is told it: number, place, kind, tick, queue or node
 --   wrote a p, writes r t o  the answer of a call that writes: number, place, length and every lent byte afterwards; and what they are where r refuses
 --                            the text t or does not, o having been lent
+--   said b                   a test as a number
 --   output-answers, write-, report-, line-answers
 --                            any answer that the contract of such a call allows is that one
 use mathlib.Core.Path.{_≡_, refl, ap₂, _∙_}
@@ -76,8 +76,8 @@ unfoldable pub stateNumbers : Run → List ℕ
 stateNumbers s = s .clock ∷ (s .counts ++ (s .held ++ s .done))
 
 -- the answer of a call that makes a chain
-abbrev pub made : ChainAnswer → List ℕ
-made r = r .number ∷ r .place ∷ chainNumbers (r .chain)
+abbrev pub madeChain : ChainAnswer → List ℕ
+madeChain r = r .number ∷ r .place ∷ chainNumbers (r .chain)
 
 -- the answer of a call that analyses one
 unfoldable pub analysed : AnalysisAnswer → List ℕ
@@ -104,12 +104,13 @@ writes r t o = r .number ∷ r .place ∷ cond (eqb (r .number) 0) (length t ∷
 abbrev pub said : Bool → ℕ
 said b = cond b 1 0
 
--- what the call answers; for C a tick and a deadline run answer `coded` and `flat`, the state of the tick being the one that is left in its place
+-- what the call answers; C is told the outcome of a tick and of a deadline run as kind, tick, and queue or node, behind the place, and a tick's state is what is left in the
+-- place of the one that was lent
 unfoldable pub answerTo : Question → List ℕ
 unfolding chainNumbers analysed stateNumbers writes wordAt rowAt readAnswer packed writeRefusal factoryAnswer reportRefusal refusalText begins analyseAnswer runAnswer freshAnswer fireAnswer immediateAnswer deadlineAnswer tickAnswer deadlineRunAnswer
-answerTo (read f) = made (readAnswer f)
+answerTo (read f) = madeChain (readAnswer f)
 answerTo (write c o) = writes (writeRefusal c (length o)) (packed c) o
-answerTo (factory k) = made (factoryAnswer k)
+answerTo (factory k) = madeChain (factoryAnswer k)
 answerTo (report f o) = writes (reportRefusal f (length o)) (reportText f) o
 answerTo (refusalLine N L o) = writes (roomCheck (length (refusalText N L)) (length o)) (refusalText N L) o
 answerTo (headed t) = said (begins t) ∷ []

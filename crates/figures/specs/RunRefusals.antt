@@ -3,6 +3,10 @@
 --   plain B                  a chain of one queue that takes what is put in, one at a time, of capacity B
 --   along q r                a chain of two queues
 --   tokens B C D             a chain of three queues like the one of plain
+--   fireRefused c s i N L, tickRefused c s N L
+--                            a firing of N_i from the state s, and a tick, that are refused with N at L and leave s
+--   tickUndated c s t i, tickOverflows c s t q
+--                            a tick that ends with 13 at tick t and node i, and one that overflows at tick t and queue q; both leave s
 --   counting, holding, runOutcomes, asking
 --                            9; 11 and 12 of a manual firing; 13 of a tick; 11 and 13 of a deadline question
 --   byState                  the calls that are handed a state refuse it 17, before 9 and 11
@@ -14,6 +18,7 @@ use Rattle.ardenquill.specs.Records.{Queue, Chain, Run}
 use Rattle.figures.specs.Questions.{fire, immediate, immediateRefusal, deadline, tick, tickForC, deadlineRun, deadlineRunForC, stateNumbers}
 use Rattle.figures.specs.Literals.{Row, row, chain, feed, permeate, run, refused, stateIs, keeps, tickKeeps, cleanAt, overflowedAt, undatedAt}
 
+-- chains of one, two and three queues, of period 10 and execution times 1
 abbrev pub plain : ℕ → Chain
 plain B = chain 10 (row 1 1 1 B 0 ∷ []) (1 ∷ [])
 
@@ -22,6 +27,19 @@ along q r = chain 10 (q ∷ r ∷ []) (1 ∷ 1 ∷ [])
 
 abbrev pub tokens : ℕ → ℕ → ℕ → Chain
 tokens B C D = chain 10 (row 1 1 1 B 0 ∷ row 1 1 1 C 0 ∷ row 1 1 1 D 0 ∷ []) (1 ∷ 1 ∷ 1 ∷ [])
+
+-- "run state as before", and "the state being that before" the source's step
+abbrev pub fireRefused : Chain → Run → ℕ → ℕ → ℕ → Row
+fireRefused c s i N L = (fire c s i, keeps N L s)
+
+abbrev pub tickRefused : Chain → Run → ℕ → ℕ → Row
+tickRefused c s N L = (tick c s, tickKeeps N L s)
+
+abbrev pub tickUndated : Chain → Run → ℕ → ℕ → Row
+tickUndated c s t i = (tick c s, undatedAt s t i)
+
+abbrev pub tickOverflows : Chain → Run → ℕ → ℕ → Row
+tickOverflows c s t q = (tick c s, overflowedAt s t q)
 
 -- 9: "run too long"
 abbrev pub counting : List Row
@@ -39,60 +57,60 @@ counting =
     ∷ (deadlineRun feed 4294967295, refused 9 0 51)
     -- tick: the clock
     ∷ (tick feed (run 999999 [] [] []), cleanAt (run 1000000 [] [] []))
-    ∷ (tick feed (run 1000000 [] [] []), tickKeeps 9 0 (run 1000000 [] [] []))
+    ∷ tickRefused feed (run 1000000 [] [] []) 9 0
     ∷ (tickForC feed (run 1000000 [] [] []), refused 9 0 3 ++ stateNumbers (run 1000000 [] [] []))
     -- a count of 4,294,967,295: of both nodes; of N_1 and N_2; of N_2 alone; and the clock before a count
-    ∷ (tick (plain 0) (run 0 (4294967295 ∷ 4294967295 ∷ []) [] []), tickKeeps 9 0 (run 0 (4294967295 ∷ 4294967295 ∷ []) [] []))
-    ∷ (tick (along (row 3 1 1 0 0) (row 1 1 1 0 0)) (run 0 (1431655765 ∷ 4294967295 ∷ 4294967295 ∷ []) [] []), tickKeeps 9 1 (run 0 (1431655765 ∷ 4294967295 ∷ 4294967295 ∷ []) [] []))
-    ∷ (tick (along (row 1 1 1 0 0) (row 3 1 1 0 0)) (run 0 (1431655765 ∷ 1431655765 ∷ 4294967295 ∷ []) [] []), tickKeeps 9 2 (run 0 (1431655765 ∷ 1431655765 ∷ 4294967295 ∷ []) [] []))
-    ∷ (tick (along (row 1 1 1 0 0) (row 3 1 1 0 0)) (run 1000000 (1431655765 ∷ 1431655765 ∷ 4294967295 ∷ []) [] []), tickKeeps 9 0 (run 1000000 (1431655765 ∷ 1431655765 ∷ 4294967295 ∷ []) [] []))
+    ∷ tickRefused (plain 0) (run 0 (4294967295 ∷ 4294967295 ∷ []) [] []) 9 0
+    ∷ tickRefused (along (row 3 1 1 0 0) (row 1 1 1 0 0)) (run 0 (1431655765 ∷ 4294967295 ∷ 4294967295 ∷ []) [] []) 9 1
+    ∷ tickRefused (along (row 1 1 1 0 0) (row 3 1 1 0 0)) (run 0 (1431655765 ∷ 1431655765 ∷ 4294967295 ∷ []) [] []) 9 2
+    ∷ tickRefused (along (row 1 1 1 0 0) (row 3 1 1 0 0)) (run 1000000 (1431655765 ∷ 1431655765 ∷ 4294967295 ∷ []) [] []) 9 0
     -- counts one below it: the source does not fire, or fires
     ∷ (tick (plain 0) (run 1 (4294967294 ∷ 4294967294 ∷ []) [] []), cleanAt (run 2 (4294967294 ∷ 4294967294 ∷ []) [] []))
     ∷ (tick (chain 10 (row 1 2 1 0 0 ∷ []) (1 ∷ [])) (run 0 (4294967294 ∷ 4294967294 ∷ []) [] []), cleanAt (run 1 (4294967295 ∷ 4294967294 ∷ []) (1 ∷ []) []))
     -- manual: of the fired node alone; 9 before 11 and before 12; not of a node that there is not
-    ∷ (fire (plain 10) (run 0 (4294967295 ∷ 4294967294 ∷ []) (1 ∷ []) []) 0, keeps 9 0 (run 0 (4294967295 ∷ 4294967294 ∷ []) (1 ∷ []) []))
+    ∷ fireRefused (plain 10) (run 0 (4294967295 ∷ 4294967294 ∷ []) (1 ∷ []) []) 0 9 0
     ∷ (fire (plain 10) (run 0 (4294967295 ∷ 4294967294 ∷ []) (1 ∷ []) []) 1, stateIs (run 0 (4294967295 ∷ 4294967295 ∷ []) [] []))
-    ∷ (fire (plain 10) (run 0 (4294967295 ∷ 4294967295 ∷ []) [] []) 1, keeps 9 1 (run 0 (4294967295 ∷ 4294967295 ∷ []) [] []))
-    ∷ (fire (plain 1) (run 0 (4294967295 ∷ 4294967294 ∷ []) (1 ∷ []) []) 0, keeps 9 0 (run 0 (4294967295 ∷ 4294967294 ∷ []) (1 ∷ []) []))
+    ∷ fireRefused (plain 10) (run 0 (4294967295 ∷ 4294967295 ∷ []) [] []) 1 9 1
+    ∷ fireRefused (plain 1) (run 0 (4294967295 ∷ 4294967294 ∷ []) (1 ∷ []) []) 0 9 0
     ∷ (fire (plain 10) (run 0 (4294967294 ∷ 4294967294 ∷ []) [] []) 0, stateIs (run 0 (4294967295 ∷ 4294967294 ∷ []) (1 ∷ []) []))
-    ∷ (fire (plain 10) (run 0 (1 ∷ 1 ∷ 4294967295 ∷ []) [] []) 2, keeps 11 2 (run 0 (1 ∷ 1 ∷ 4294967295 ∷ []) [] []))
+    ∷ fireRefused (plain 10) (run 0 (1 ∷ 1 ∷ 4294967295 ∷ []) [] []) 2 11 2
     ∷ []
 
 -- 11: "no such node, .. or node not over threshold"; 12: "a manual firing would pass a capacity"
 abbrev pub holding : List Row
 holding =
     -- 11: N_2 of a chain of one queue, a node far off, and N_1 with τ − 1 held; with τ it fires
-    (fire feed (run 0 [] [] []) 2, keeps 11 2 (run 0 [] [] []))
-    ∷ (fire feed (run 0 [] [] []) 4294967295, keeps 11 4294967295 (run 0 [] [] []))
-    ∷ (fire feed (run 0 (3 ∷ 2 ∷ []) (6 ∷ []) []) 1, keeps 11 1 (run 0 (3 ∷ 2 ∷ []) (6 ∷ []) []))
+    fireRefused feed (run 0 [] [] []) 2 11 2
+    ∷ fireRefused feed (run 0 [] [] []) 4294967295 11 4294967295
+    ∷ fireRefused feed (run 0 (3 ∷ 2 ∷ []) (6 ∷ []) []) 1 11 1
     ∷ (fire feed (run 0 (4 ∷ 3 ∷ []) (7 ∷ []) []) 1, stateIs (run 0 (4 ∷ 4 ∷ []) (4 ∷ []) []))
     -- 12: "filling to exactly the capacity is allowed", here 10, and one more is not; a capacity below p
     ∷ (fire feed (run 0 (3 ∷ 2 ∷ []) (6 ∷ []) []) 0, stateIs (run 0 (4 ∷ 2 ∷ []) (10 ∷ []) []))
-    ∷ (fire feed (run 0 (4 ∷ 3 ∷ []) (7 ∷ []) []) 0, keeps 12 0 (run 0 (4 ∷ 3 ∷ []) (7 ∷ []) []))
-    ∷ (fire (chain 10 (row 4 7 3 3 0 ∷ []) (2 ∷ [])) (run 0 [] [] []) 0, keeps 12 0 (run 0 [] [] []))
+    ∷ fireRefused feed (run 0 (4 ∷ 3 ∷ []) (7 ∷ []) []) 0 12 0
+    ∷ fireRefused (chain 10 (row 4 7 3 3 0 ∷ []) (2 ∷ [])) (run 0 [] [] []) 0 12 0
     -- both queues of Permeate are full: each node names its own, and the sink has none
-    ∷ (fire permeate (run 0 (4 ∷ 2 ∷ 1 ∷ []) (10 ∷ 4 ∷ []) []) 0, keeps 12 0 (run 0 (4 ∷ 2 ∷ 1 ∷ []) (10 ∷ 4 ∷ []) []))
-    ∷ (fire permeate (run 0 (4 ∷ 2 ∷ 1 ∷ []) (10 ∷ 4 ∷ []) []) 1, keeps 12 1 (run 0 (4 ∷ 2 ∷ 1 ∷ []) (10 ∷ 4 ∷ []) []))
+    ∷ fireRefused permeate (run 0 (4 ∷ 2 ∷ 1 ∷ []) (10 ∷ 4 ∷ []) []) 0 12 0
+    ∷ fireRefused permeate (run 0 (4 ∷ 2 ∷ 1 ∷ []) (10 ∷ 4 ∷ []) []) 1 12 1
     ∷ (fire permeate (run 0 (4 ∷ 2 ∷ 1 ∷ []) (10 ∷ 4 ∷ []) []) 2, stateIs (run 0 (4 ∷ 2 ∷ 2 ∷ []) (10 ∷ 2 ∷ []) []))
     ∷ (fire permeate (run 0 (4 ∷ 2 ∷ 2 ∷ []) (10 ∷ 2 ∷ []) []) 1, stateIs (run 0 (4 ∷ 3 ∷ 2 ∷ []) (7 ∷ 5 ∷ []) []))
     -- 11 before 12
-    ∷ (fire permeate (run 0 (3 ∷ 2 ∷ 1 ∷ []) (6 ∷ 4 ∷ []) []) 1, keeps 11 1 (run 0 (3 ∷ 2 ∷ 1 ∷ []) (6 ∷ 4 ∷ []) []))
+    ∷ fireRefused permeate (run 0 (3 ∷ 2 ∷ 1 ∷ []) (6 ∷ 4 ∷ []) []) 1 11 1
     ∷ []
 
 -- 13 of a tick: "the lowest such over-threshold node, the state being that before the source's step"
 abbrev pub runOutcomes : List Row
 runOutcomes =
     -- N_1 is over threshold once the source has fired
-    (tick (plain 10) (run 0 (4294967294 ∷ 4294967294 ∷ []) [] []), undatedAt (run 0 (4294967294 ∷ 4294967294 ∷ []) [] []) 0 1)
+    tickUndated (plain 10) (run 0 (4294967294 ∷ 4294967294 ∷ []) [] []) 0 1
     -- the source's index for N_1's next firing is 4,294,967,295 and one more, B being 10 and 11
     ∷ (tick (plain 10) (run 1 (4294967285 ∷ 4294967284 ∷ []) (1 ∷ []) []), cleanAt (run 2 (4294967285 ∷ 4294967285 ∷ []) [] []))
-    ∷ (tick (plain 11) (run 1 (4294967285 ∷ 4294967284 ∷ []) (1 ∷ []) []), undatedAt (run 1 (4294967285 ∷ 4294967284 ∷ []) (1 ∷ []) []) 1 1)
+    ∷ tickUndated (plain 11) (run 1 (4294967285 ∷ 4294967284 ∷ []) (1 ∷ []) []) 1 1
     -- N_1 and N_2 have no deadline; N_2 alone; N_2 is not over threshold
-    ∷ (tick (along (row 1 1 1 10 0) (row 1 1 1 10 0)) (run 1 (4294967294 ∷ 4294967293 ∷ 4294967292 ∷ []) (1 ∷ 1 ∷ []) []), undatedAt (run 1 (4294967294 ∷ 4294967293 ∷ 4294967292 ∷ []) (1 ∷ 1 ∷ []) []) 1 1)
-    ∷ (tick (along (row 1 1 1 1 0) (row 1 1 1 1000000 0)) (run 1 (4294967000 ∷ 4294966999 ∷ 4294966998 ∷ []) (1 ∷ 1 ∷ []) []), undatedAt (run 1 (4294967000 ∷ 4294966999 ∷ 4294966998 ∷ []) (1 ∷ 1 ∷ []) []) 1 2)
+    ∷ tickUndated (along (row 1 1 1 10 0) (row 1 1 1 10 0)) (run 1 (4294967294 ∷ 4294967293 ∷ 4294967292 ∷ []) (1 ∷ 1 ∷ []) []) 1 1
+    ∷ tickUndated (along (row 1 1 1 1 0) (row 1 1 1 1000000 0)) (run 1 (4294967000 ∷ 4294966999 ∷ 4294966998 ∷ []) (1 ∷ 1 ∷ []) []) 1 2
     ∷ (tick (along (row 1 1 1 1 0) (row 1 2 1 1000000 0)) (run 1 (4294967000 ∷ 4294966999 ∷ 4294966998 ∷ []) (1 ∷ 1 ∷ []) []), cleanAt (run 2 (4294967000 ∷ 4294967000 ∷ 4294966998 ∷ []) (0 ∷ 2 ∷ []) []))
-    -- an overflow of the source comes before 13
-    ∷ (tick (plain 1) (run 0 (4294967294 ∷ 4294967293 ∷ []) (1 ∷ []) []), overflowedAt (run 0 (4294967294 ∷ 4294967293 ∷ []) (1 ∷ []) []) 0 0)
+    -- an overflow of the source comes before 13 of N_2
+    ∷ tickOverflows (along (row 1 1 1 1 0) (row 1 1 1 1000000 0)) (run 0 (4294967000 ∷ 4294966999 ∷ 4294966998 ∷ []) (1 ∷ 1 ∷ []) []) 0 0
     ∷ []
 
 -- 11 and 13 of a deadline question
@@ -117,10 +135,11 @@ asking =
     ∷ (deadline (tokens 10 5 3) 3 4294967295, refused 13 2 1)
     ∷ []
 
--- 17 before 11 of a node that there is not, and before 9 of the clock
+-- 17: "breaks the balance .., passes a capacity, or has work done of e or more"; before 11 of a node that there is not, and before 9 of the clock
 unfoldable pub byState : Chain × (Run × ℕ) → List Row
-byState (c, (s, L)) = (fire c s 17, keeps 17 L s) ∷ (tick c s, tickKeeps 17 L s) ∷ []
+byState (c, (s, L)) = fireRefused c s 17 17 L ∷ tickRefused c s 17 L ∷ []
 
+-- the chain, the state, and the "lowest queue, for work done the one feeding the node"
 abbrev pub badStates : List (Chain × (Run × ℕ))
 badStates =
     -- the balance: 4 × 1 − 3 × 0 is 4, not 3 and not 5; 4 × 0 − 3 × 1 is not 0; nor is 2 × 2,147,483,648, nor is 0 − 4,294,967,295 what 32 bits keep of it
@@ -146,6 +165,7 @@ badStates =
     ∷ (plain 0, (run 0 (4294967295 ∷ 4294967295 ∷ []) (1 ∷ []) [], 0))
     ∷ []
 
+-- and what is just not refused
 abbrev pub goodStates : List Row
 goodStates =
     -- work done of e − 1: a manual firing leaves it, and a tick ends the work; a queue that is full
