@@ -13,6 +13,7 @@
 --                            a chain of one queue; of two, the first of them Feed's; of 16, with another last row and last execution time
 --   badFiles, badChains, badRates, badCapacities
 --                            what is refused, with which number and place
+--   goodChains, justAccepted what is just not refused
 --   chainRefusals            the questions with their answers
 use mathlib.Core.List.{List, [], _∷_, _++_, flatMap}
 use Prim.Native.Nat.{ℕ}
@@ -20,7 +21,7 @@ use lib.ListN.{take, replicate}
 use Rattle.ardenquill.specs.Records.{Queue, Chain, Run}
 use Rattle.figures.specs.Questions.{read, write, report, analyse, checkedForRun, fresh, fire, immediate, deadline, tick, deadlineRun}
 use Rattle.figures.specs.Literals.{Row, repeated, row, chainOf, chain, feed, run, text, changed, refused, chainIs, stateIs, sizesAre, keeps, tickKeeps, cleanAt}
-use Rattle.figures.specs.Files.{feedFile, apartFile, full, fullFile}
+use Rattle.figures.specs.Files.{feedFile, apartFile, full, fullFile, heading}
 
 -- a file or a chain with number and place
 abbrev pub Fault : Type 0 → Type 0
@@ -249,30 +250,34 @@ badCapacities =
     ∷ (chain 5 (row 4 7 3 10 0 ∷ row 3 4 2 5 0 ∷ []) (1 ∷ 1 ∷ []), (8, 1))
     ∷ []
 
--- all of these, and what is just not refused
-abbrev pub chainRefusals : List Row
-chainRefusals =
-    flatMap byFile badFiles ++ (flatMap byRecord badChains ++ (flatMap byAnalysis badRates ++ (flatMap byRun badCapacities ++ (
-    flatMap accepted (smallest ∷ largest ∷ full ∷ one 1 1 1 1 1 0 1 ∷ one 10 4 7 3 10 0 2 ∷ one 5 1 1 1 0 0 5 ∷ chain 5 (row 1 1 1 0 0 ∷ row 1 1 1 0 0 ∷ []) (2 ∷ 3 ∷ []) ∷ []) ++ (
+-- chains that no check refuses: numbers at the ends of their ranges, B at the minimum, a load of 16 of 16 and of 5 of 5
+abbrev pub goodChains : List Chain
+goodChains = smallest ∷ largest ∷ full ∷ one 1 1 1 1 1 0 1 ∷ one 10 4 7 3 10 0 2 ∷ one 5 1 1 1 0 0 5 ∷ chain 5 (row 1 1 1 0 0 ∷ row 1 1 1 0 0 ∷ []) (2 ∷ 3 ∷ []) ∷ []
+
+-- what a call does not refuse, or not with a number that is another call's
+abbrev pub justAccepted : List Row
+justAccepted =
     -- length 4,096, tables that touch, every number at the ends of its range
     (read (longFile (0 ∷ 16 ∷ []) 4052), chainIs feed)
     ∷ (read turnedFile, chainIs feed)
     ∷ (read largestFile, chainIs largest)
     ∷ (read smallestFile, chainIs smallest)
-    -- 6 and 7 of a report, before 10: y 131,072 × 65,535; 32 of 30
+    -- 6 and 7 are said of a report, before 10: y 131,072 × 65,535; 32 of 30; and not 28 of 30
     ∷ (report (changed (changed largestFile 4 (0 ∷ 0 ∷ 2 ∷ [])) 20 (1 ∷ 0 ∷ [])) (7 ∷ []), 6 ∷ 1 ∷ 0 ∷ 7 ∷ [])
     ∷ (report (changed feedFile 40 (8 ∷ [])) (7 ∷ []), 7 ∷ 0 ∷ 0 ∷ 7 ∷ [])
-    -- "exact busy above y_n": 28 of 30
-    ∷ (report (changed feedFile 40 (7 ∷ [])) (replicate 60 7), 0 ∷ 0 ∷ 60 ∷ text "queue,x,y,minimum,capacity,margin\n0,4,30,10,10,0\nbusy,28,30\n")
-    -- y 65,537 × 65,535 = 4,294,967,295
-    ∷ (analyse (one 65537 1 65535 65535 0 0 1), sizesAre 1 (1 ∷ 4294967295 ∷ 65535 ∷ 65535 ∷ 65535 ∷ 0 ∷ 0 ∷ []) 1 4294967295)
-    -- neither 6 nor 7 is said of a record that is written
+    ∷ (report (changed feedFile 40 (7 ∷ [])) (replicate 60 7), 0 ∷ 0 ∷ 60 ∷ (heading ++ text "0,4,30,10,10,0\nbusy,28,30\n"))
+    -- and not of a file that is read or a record that is written
+    ∷ (read (changed feedFile 40 (8 ∷ [])), chainIs (one 10 4 7 3 0 0 8))
     ∷ (write (one 131072 1 32768 32768 0 0 1) [], 10 ∷ 44 ∷ 0 ∷ [])
     ∷ (write (one 5 1 1 1 0 0 6) [], 10 ∷ 44 ∷ 0 ∷ [])
+    -- y 65,537 × 65,535 = 4,294,967,295
+    ∷ (analyse (one 65537 1 65535 65535 0 0 1), sizesAre 1 (1 ∷ 4294967295 ∷ 65535 ∷ 65535 ∷ 65535 ∷ 0 ∷ 0 ∷ []) 1 4294967295)
     -- 8 is not said of an analysis, of a fresh start, of a manual firing
     ∷ (analyse (one 10 4 7 3 9 0 2), sizesAre 1 (4 ∷ 30 ∷ 10 ∷ 4 ∷ 9 ∷ 1 ∷ 1 ∷ []) 8 30)
     ∷ (fresh (one 10 4 7 3 9 0 2), stateIs (run 0 [] [] []))
     ∷ (fire (one 10 4 7 3 9 0 2) (run 0 [] [] []) 0, stateIs (run 0 (1 ∷ []) (4 ∷ []) []))
     ∷ []
-    )
-    ))))
+
+-- all of these
+abbrev pub chainRefusals : List Row
+chainRefusals = flatMap byFile badFiles ++ (flatMap byRecord badChains ++ (flatMap byAnalysis badRates ++ (flatMap byRun badCapacities ++ (flatMap accepted goodChains ++ justAccepted))))

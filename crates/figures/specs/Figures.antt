@@ -2,7 +2,6 @@
 --   permeateWritten, feedConsuming c, feedWorking e B, largeCycle
 --                            what the figures change in the factory chains, and P10's chain
 --   dueFirst                 a chain in whose run deadlines decide
---   late, lateRun            a chain and a state whose node 1 is over threshold and has no deadline
 --   example                  000's deadline example
 --   scopeFigures             P1 to P10, that example, and a run of each kind
 --   table                    the questions with their answers: these, and those of Files, ChainRefusals and RunRefusals
@@ -15,9 +14,9 @@ use Prim.Native.Nat.{ℕ, zero, suc, _<_}
 use native.Mathlib.Omega.{arith}
 use lib.Dec.{T, eqb, eqb→eq}
 use lib.ListN.{length, getD, replicate}
-use Rattle.ardenquill.specs.Records.{Chain, Run}
+use Rattle.ardenquill.specs.Records.{Chain}
 use Rattle.figures.specs.Questions.{analyse, checkedForRun, fresh, fire, immediate, deadline, tick, tickForC, deadlineRun, deadlineRunForC, deadlineRunRefusal, answerTo, chainNumbers, stateNumbers}
-use Rattle.figures.specs.Literals.{Row, repeated, row, chain, feed, permeate, flush, run, text, refused, stateIs, sizesAre, keeps, cleanAt, overflowedAt, undatedAt}
+use Rattle.figures.specs.Literals.{Row, repeated, row, chain, feed, permeate, flush, run, text, refused, stateIs, sizesAre, keeps, cleanAt, overflowedAt}
 use Rattle.figures.specs.Files.{full, files, reports}
 use Rattle.figures.specs.ChainRefusals.{chainRefusals, byFile, byRecord, accepted}
 use Rattle.figures.specs.RunRefusals.{runRefusals, byState}
@@ -37,14 +36,6 @@ largeCycle = chain 1000000 (row 1 65521 65521 0 0 ∷ []) (1 ∷ [])
 
 abbrev pub dueFirst : Chain
 dueFirst = chain 6 (row 3 3 3 3 0 ∷ row 1 3 3 5 0 ∷ []) (3 ∷ 4 ∷ [])
-
--- N_1's next index is past the limit one node further down
-abbrev pub late : Chain
-late = chain 10 (row 1 1 1 10 0 ∷ []) (1 ∷ [])
-
--- and it is over threshold at a clock at which the source does not fire
-abbrev pub lateRun : Run
-lateRun = run 1 (4294967291 ∷ 4294967290 ∷ []) (1 ∷ []) []
 
 -- 000's: "(118,118,118), three of (256,256,256), (256,32768,16384), (32768,128,128), B all 0, y=1000, e all 1"
 abbrev pub example : Chain
@@ -89,9 +80,6 @@ scopeFigures =
     ∷ (deadlineRun dueFirst 20, cleanAt (run 20 (4 ∷ 3 ∷ 0 ∷ []) (3 ∷ 3 ∷ []) (2 ∷ 3 ∷ [])))
     -- Feed goes on past tick 100
     ∷ (deadlineRun (feedWorking 2 10) 110, cleanAt (run 110 (11 ∷ 13 ∷ []) (5 ∷ []) []))
-    -- 13 is looked for where the source does not step, too; C is told it as kind 2, the tick, the node
-    ∷ (tick late lateRun, undatedAt lateRun 1 1)
-    ∷ (tickForC late lateRun, 0 ∷ 0 ∷ 2 ∷ 1 ∷ 1 ∷ stateNumbers lateRun)
     -- P9: c = τ is accepted, c = τ + 1 refused 5 at the place of c
     ∷ (analyse (feedConsuming 7), sizesAre 1 (4 ∷ 70 ∷ 10 ∷ 7 ∷ 10 ∷ 0 ∷ 0 ∷ []) 8 70)
     ∷ (analyse (feedConsuming 8), refused 5 28 115)

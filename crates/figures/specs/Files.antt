@@ -2,12 +2,12 @@
 --   feedFile, permeateFile, flushFile
 --                            the packed files of 01's factory chains
 --   mixed, mixedPast, mixedRows, mixedNodes, mixedFile
---                            a chain whose words all differ and none of which fits a byte; the same with slots past n that are not zero; its two tables; and
+--                            a chain whose words all differ and, but for the reserved ones, do not fit a byte; the same with slots past n that are not zero; its two tables; and
 --                            its packed file
 --   apartFile                another file of it: the node table first, bytes in neither table before, between and behind
 --   full, fullFile           a chain of 16 queues
 --   short, shortFile         three queues, one of them with a negative margin, and no number twice in a line
---   heading                  the report's first line
+--   heading, feedReport      the report's first line, and the whole report of Feed
 --   files, reports           the questions with their answers
 use mathlib.Core.List.{List, [], _∷_, _++_}
 use Prim.Native.Nat.{ℕ}
@@ -119,14 +119,19 @@ files =
 abbrev pub heading : List ℕ
 heading = text "queue,x,y,minimum,capacity,margin\n"
 
+-- "for the Feed chain, whole"
+abbrev pub feedReport : List ℕ
+feedReport = text "queue,x,y,minimum,capacity,margin\n0,4,30,10,10,0\nbusy,8,30\n"
+
+-- what is reported, of files and of refusals; lent bytes are 7
 abbrev pub reports : List Row
 reports =
-    -- Feed's, which 01 has whole: 59 bytes, into as many, into more, and refused with one byte less
-    (report feedFile (replicate 59 7), 0 ∷ 0 ∷ 59 ∷ text "queue,x,y,minimum,capacity,margin\n0,4,30,10,10,0\nbusy,8,30\n")
-    ∷ (report feedFile (replicate 1133 7), 0 ∷ 0 ∷ 59 ∷ (text "queue,x,y,minimum,capacity,margin\n0,4,30,10,10,0\nbusy,8,30\n" ++ replicate 1074 7))
+    -- Feed's: 59 bytes, into as many, into more, and refused with one byte less
+    (report feedFile (replicate 59 7), 0 ∷ 0 ∷ 59 ∷ feedReport)
+    ∷ (report feedFile (replicate 1133 7), 0 ∷ 0 ∷ 59 ∷ (feedReport ++ replicate 1074 7))
     ∷ (report feedFile (replicate 58 7), 10 ∷ 59 ∷ 0 ∷ replicate 58 7)
-    ∷ (report permeateFile (replicate 74 7), 0 ∷ 0 ∷ 73 ∷ (text "queue,x,y,minimum,capacity,margin\n0,4,15,10,10,0\n1,6,15,6,6,0\nbusy,10,15\n" ++ (7 ∷ [])))
-    ∷ (report shortFile (replicate 102 7), 0 ∷ 0 ∷ 102 ∷ text "queue,x,y,minimum,capacity,margin\n0,3,200,14,20,6\n1,5,200,16,9,-7\n2,10,1400,28,1000,972\nbusy,187,1400\n")
+    ∷ (report permeateFile (replicate 74 7), 0 ∷ 0 ∷ 73 ∷ (heading ++ (text "0,4,15,10,10,0\n1,6,15,6,6,0\nbusy,10,15\n" ++ (7 ∷ []))))
+    ∷ (report shortFile (replicate 102 7), 0 ∷ 0 ∷ 102 ∷ (heading ++ text "0,3,200,14,20,6\n1,5,200,16,9,-7\n2,10,1400,28,1000,972\nbusy,187,1400\n"))
     ∷ (
       report fullFile (replicate 259 7),
       0 ∷ 0 ∷ 259

@@ -102,9 +102,11 @@ abbrev pub runOutcomes : List Row
 runOutcomes =
     -- N_1 is over threshold once the source has fired
     tickUndated (plain 10) (run 0 (4294967294 ∷ 4294967294 ∷ []) [] []) 0 1
-    -- the source's index for N_1's next firing is 4,294,967,295 and one more, B being 10 and 11
+    -- where the source does not step: its index for N_1's next firing is 4,294,967,295, and one more, B being 10 and 11
     ∷ (tick (plain 10) (run 1 (4294967285 ∷ 4294967284 ∷ []) (1 ∷ []) []), cleanAt (run 2 (4294967285 ∷ 4294967285 ∷ []) [] []))
     ∷ tickUndated (plain 11) (run 1 (4294967285 ∷ 4294967284 ∷ []) (1 ∷ []) []) 1 1
+    -- the same, as C is told it: kind 2, the tick, the node
+    ∷ (tickForC (plain 11) (run 1 (4294967285 ∷ 4294967284 ∷ []) (1 ∷ []) []), 0 ∷ 0 ∷ 2 ∷ 1 ∷ 1 ∷ stateNumbers (run 1 (4294967285 ∷ 4294967284 ∷ []) (1 ∷ []) []))
     -- N_1 and N_2 have no deadline; N_2 alone; N_2 is not over threshold
     ∷ tickUndated (along (row 1 1 1 10 0) (row 1 1 1 10 0)) (run 1 (4294967294 ∷ 4294967293 ∷ 4294967292 ∷ []) (1 ∷ 1 ∷ []) []) 1 1
     ∷ tickUndated (along (row 1 1 1 1 0) (row 1 1 1 1000000 0)) (run 1 (4294967000 ∷ 4294966999 ∷ 4294966998 ∷ []) (1 ∷ 1 ∷ []) []) 1 2
