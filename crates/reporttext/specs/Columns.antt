@@ -99,8 +99,8 @@ module _ {a : Analysis} {s t : List ℕ} (h : IsReport a s) (g : IsReport a t) w
   piece-same (suc i) l = by-cases (decLt i (a .n))
       (λ m. line-same (h .queues i m) (g .queues i m))
       (λ m. by-cases (ℕ-discrete i (a .n))
-          (λ e. rw e (line-same (h .last) (g .last)))
-          (λ n. let e : i ≡ suc (a .n) = omega arith in rw e (h .ended ∙ sym (g .ended))))
+      (λ e. rw e (line-same (h .last) (g .last)))
+      (λ n. let e : i ≡ suc (a .n) = omega arith in rw e (h .ended ∙ sym (g .ended))))
 
   report-same : s ≡ t
   report-same = cut-same 10 (ext-getD [] (cut 10 s) (cut 10 t) (h .pieces ∙ sym (g .pieces)) (λ i l. piece-same i (omega (arith, h .pieces))))
