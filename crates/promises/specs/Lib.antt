@@ -5,6 +5,7 @@ pub mod ByTicks
 pub mod Demand1
 pub mod Demand2
 pub mod TickInNumbers
+pub mod ReportInColumns
 pub mod Demand3
 pub mod Beyond
 pub mod Replayed
