@@ -5,7 +5,7 @@
 --                      two texts that write one number are the same text
 --   writes-decimal, signed-integer
 --                      it is `decimal`'s, and `integer`'s, and nothing else
-use mathlib.Core.Path.{_≡_, refl, sym, ap, subst}
+use mathlib.Core.Path.{_≡_, refl, ap, subst}
 use mathlib.Core.Logic.{_↔_}
 use mathlib.Core.List.{List, [], _∷_, _++_}
 use Prim.Native.Nat.{ℕ, suc, _+_, _*_, _/_, _%_, _<_}

@@ -12,12 +12,11 @@ use mathlib.Core.Path.{_≡_, refl, sym, ap, subst, _∙_}
 use mathlib.Core.Logic.{_↔_, by-cases}
 use mathlib.Core.List.{List, [], _∷_, _++_, append-assoc, append-nil}
 use Prim.Native.Nat.{ℕ, zero, suc, _+_, _<_}
-use native.Mathlib.Nat.{not-suc-le-zero}
 use native.Mathlib.Decide.{ℕ-discrete, decLt}
 use native.Mathlib.Omega.{arith}
 use lib.ListN.{length, getD, length-append, List·getD-append}
 use lib.Seq.{ext-getD, getD-at, getD-append-add}
-use lib.IntN.{ℤ, pos, negsuc}
+use lib.IntN.{ℤ}
 use Rattle.words.specs.Flat.{flat}
 use Rattle.words.specs.Table.{tab, tab-at, tab-last, length-tab}
 use Rattle.decimal.specs.Digits.{decimal, column}
@@ -26,8 +25,8 @@ use Rattle.decimal.specs.Written.{Writes, WritesSigned, writes-same, signed-sam
 use Rattle.sizing.specs.Sizes.{noSize}
 use Rattle.sizing.specs.declared.QueueSize.{QueueSize}
 use Rattle.sizing.specs.declared.Analysis.{Analysis}
-use Rattle.reporttext.specs.Cut.{occurrences, Without, without-append, without-decimal, without-integer, cut, cut-one, cut-more, cut-same}
-use Rattle.reporttext.specs.Text.{numbers, line, lines, busyWord, busyLine, textOf}
+use Rattle.reporttext.specs.Cut.{occurrences, Without, without-decimal, without-integer, cut, cut-one, cut-more, cut-same}
+use Rattle.reporttext.specs.Text.{numbers, line, lines, busyLine, textOf}
 use Rattle.reporttext.specs.Refused.{refusalText}
 use Rattle.reporttext.specs.Feeds.{OneLine, heading-one, queue-one, busy-one, refusal-one}
 
@@ -176,49 +175,60 @@ cut-lines {f} o (suc n) t =
     ∙ ap (λ (ss : List (List ℕ)). tab n g ++ ss) (cut-line (o n) t)
     ∙ sym (append-assoc (tab n g) (g n ∷ []) (cut 10 t)) ∙ ap (λ (ss : List (List ℕ)). ss ++ cut 10 t) (sym (tab-last n g))
 
+cut-last : {s : List ℕ} (o : OneLine s) → cut 10 s ≡ o .body ∷ [] ∷ []
+unfolding cut
+cut-last {s} o = ap (cut 10) (sym (append-nil s)) ∙ cut-line o []
+
+-- what stands where in a table with a last line and an empty piece behind it, and how many pieces these are with a first line before them
+module _ (n : ℕ) (g : ℕ → List ℕ) (b : List ℕ) where
+  pieces-length : suc (length (tab n g ++ (b ∷ [] ∷ []))) ≡ n + 3
+  pieces-length = omega (arith, length-append (tab n g) (b ∷ [] ∷ []), length-tab n g)
+
+  piece-table : (i : ℕ) → i < n → getD (tab n g ++ (b ∷ [] ∷ [])) i [] ≡ g i
+  piece-table i l = List·getD-append (tab n g) (b ∷ [] ∷ []) [] i (rw (length-tab n g) l) ∙ tab-at n g i [] l
+
+  piece-last : getD (tab n g ++ (b ∷ [] ∷ [])) n [] ≡ b
+  piece-last = getD-at (tab n g) b ([] ∷ []) [] n (length-tab n g)
+
+  piece-end : getD (tab n g ++ (b ∷ [] ∷ [])) (suc n) [] ≡ []
+  piece-end =
+      let behind : suc n ≡ length (tab n g) + 1 = omega (arith, length-tab n g) in
+      rw behind (getD-append-add (tab n g) (b ∷ [] ∷ []) 1 [])
+
 module _ (a : Analysis) where
-  queueBody : ℕ → List ℕ
-  queueBody i = queue-one i (getD (a .queues) i noSize) .body
+  queue-at : (i : ℕ) → OneLine (line i (getD (a .queues) i noSize))
+  queue-at i = queue-one i (getD (a .queues) i noSize)
 
   -- all pieces of a report
-  cut-report : cut 10 (textOf a) ≡ heading-one .body ∷ (tab (a .n) queueBody ++ (busy-one a .body ∷ [] ∷ []))
-  unfolding textOf cut queueBody
+  cut-report : cut 10 (textOf a) ≡ heading-one .body ∷ (tab (a .n) (λ i. queue-at i .body) ++ (busy-one a .body ∷ [] ∷ []))
+  unfolding textOf
   cut-report =
       cut-line heading-one (lines a (a .n) ++ busyLine a)
-      ∙ ap (λ (ss : List (List ℕ)). heading-one .body ∷ ss) (cut-lines (λ i. queue-one i (getD (a .queues) i noSize)) (a .n) (busyLine a))
-      ∙ ap (λ (ss : List (List ℕ)). heading-one .body ∷ (tab (a .n) queueBody ++ ss)) (ap (cut 10) (sym (append-nil (busyLine a))) ∙ cut-line (busy-one a) [])
+      ∙ ap (λ (ss : List (List ℕ)). heading-one .body ∷ ss) (cut-lines queue-at (a .n) (busyLine a))
+      ∙ ap (λ (ss : List (List ℕ)). heading-one .body ∷ (tab (a .n) (λ i. queue-at i .body) ++ ss)) (cut-last (busy-one a))
 
   -- the text is a report
   report-text : IsReport a (textOf a)
-  unfolding heading-one queueBody
+  unfolding heading-one queue-at
   report-text = record {
-    pieces = ap length cut-report ∙ omega (arith, length-append (tab (a .n) queueBody) (busy-one a .body ∷ [] ∷ []), length-tab (a .n) queueBody);
+    pieces = ap length cut-report ∙ pieces-length (a .n) _ _;
     first = at 0;
-    queues = λ i l. rw (at (suc i) ∙ List·getD-append (tab (a .n) queueBody) _ [] i (rw (length-tab (a .n) queueBody) l) ∙ tab-at (a .n) queueBody i [] l) (queue-line i (getD (a .queues) i noSize));
-    last = rw (at (suc (a .n)) ∙ getD-at (tab (a .n) queueBody) _ _ [] (a .n) (length-tab (a .n) queueBody)) (busy-line a);
-    ended = at (suc (suc (a .n))) ∙ ap (λ (k : ℕ). getD (tab (a .n) queueBody ++ (busy-one a .body ∷ [] ∷ [])) k []) behind ∙ getD-append-add (tab (a .n) queueBody) _ 1 [];
+    queues = λ i l. rw (at (suc i) ∙ piece-table (a .n) _ _ i l) (queue-line i (getD (a .queues) i noSize));
+    last = rw (at (suc (a .n)) ∙ piece-last (a .n) _ _) (busy-line a);
+    ended = at (suc (suc (a .n))) ∙ piece-end (a .n) _ _;
   }
     where
-      behind : suc (a .n) ≡ length (tab (a .n) queueBody) + 1
-      behind = omega (arith, length-tab (a .n) queueBody)
-
-      at : (i : ℕ) → lineAt (textOf a) i ≡ getD (heading-one .body ∷ (tab (a .n) queueBody ++ (busy-one a .body ∷ [] ∷ []))) i []
+      at : (i : ℕ) → lineAt (textOf a) i ≡ getD (heading-one .body ∷ (tab (a .n) (λ j. queue-at j .body) ++ (busy-one a .body ∷ [] ∷ []))) i []
       at i = ap (λ (ss : List (List ℕ)). getD ss i []) cut-report
 
   pub report-is : (t : List ℕ) → IsReport a t ↔ (t ≡ textOf a)
   report-is t = (λ h. report-same h report-text, λ e. rw e report-text)
 
 module _ (N L : ℕ) where
-  cut-refusal : cut 10 (refusalText N L) ≡ refusal-one N L .body ∷ [] ∷ []
-  unfolding cut
-  cut-refusal = ap (cut 10) (sym (append-nil (refusalText N L))) ∙ cut-line (refusal-one N L) []
-
   refusal-text : IsRefusal N L (refusalText N L)
-  refusal-text = record {
-    pieces = ap length cut-refusal;
-    only = rw cut-refusal (refusal-line N L);
-    ended = rw cut-refusal;
-  }
+  refusal-text =
+      let two : cut 10 (refusalText N L) ≡ refusal-one N L .body ∷ [] ∷ [] = cut-last (refusal-one N L) in
+      record { pieces = ap length two; only = rw two (refusal-line N L); ended = rw two }
 
   pub refusal-is : (t : List ℕ) → IsRefusal N L t ↔ (t ≡ refusalText N L)
   refusal-is t = (λ h. refusal-same h refusal-text, λ e. rw e refusal-text)
