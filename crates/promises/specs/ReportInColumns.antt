@@ -128,11 +128,13 @@ module _ (f o p : List ℕ) (r : LengthAnswer) (w : Output (reportRefusal f (len
       lent = lent (subst (λ (q : Refusal). Output q (reportText f) o p r) (room-left z) w);
     }
 
-  -- "It .. writes decimal text": what an accepted call leaves at the front of the lent bytes is the report of what reading and analysing answer
-  pub report-columns : r .number ≡ 0 → IsReport (analyseAnswer (readAnswer f .chain) .analysis) (take (r .length) p)
+  -- "It .. writes decimal text": what an accepted call leaves at the front of the lent bytes is the report of what reading and analysing answer, and behind it they are
+  -- as they were
+  pub report-columns : r .number ≡ 0
+      → IsReport (analyseAnswer (readAnswer f .chain) .analysis) (take (r .length) p) × (((k : ℕ) → r .length ≤ k → getD p k 0 ≡ getD o k 0) × (length p ≡ length o))
   report-columns z = by-cases (ℕ-discrete (readAnswer f .number) 0)
       (λ read. by-cases (ℕ-discrete (analyseAnswer (readAnswer f .chain) .number) 0)
-      (λ ok. let t = report-lent read ok in rw (t .lent .front z) (t .is))
+      (λ ok. let t = report-lent read ok in (rw (t .lent .front z) (t .is), (t .lent .rest, t .lent .whole)))
       (λ n. absurd (n (sym (ap (λ (a : LengthAnswer). a .number) (report-refused-analysis read n .0)) ∙ z))))
       (λ n. absurd (n (sym (ap (λ (a : LengthAnswer). a .number) (report-refused-read n .0)) ∙ z)))
 
