@@ -38,10 +38,12 @@ same (more {n = m} d l i v) (more {n} e k j w) q =
 pub writes-same : {s t : List ℕ} {n : ℕ} → Writes s n → Writes t n → s ≡ t
 writes-same v w = same v w refl
 
+-- and so of signed numbers
 pub signed-same : {s t : List ℕ} {z : ℤ} → WritesSigned s z → WritesSigned t z → s ≡ t
 signed-same (plain v) (plain w) = writes-same v w
 signed-same (minus v) (minus w) = ap (λ (u : List ℕ). 45 ∷ u) (writes-same v w)
 
+-- the texts of Digits and Signed write their numbers
 decimal-writes : (n : ℕ) → Writes (decimal n) n
 decimal-writes = by-digits (λ n t. Writes t n)
     (λ n h. rw (mod-eq-of-lt h) (one n h))
@@ -52,6 +54,7 @@ unfolding integer
 integer-writes (pos n) = plain (decimal-writes n)
 integer-writes (negsuc n) = minus (decimal-writes (suc n))
 
+-- and no other text does
 pub writes-decimal : (t : List ℕ) (n : ℕ) → Writes t n ↔ (t ≡ decimal n)
 writes-decimal t n = (λ w. writes-same w (decimal-writes n), λ e. rw e (decimal-writes n))
 

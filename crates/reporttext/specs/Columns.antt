@@ -196,6 +196,7 @@ module _ (n : ℕ) (g : ℕ → List ℕ) (b : List ℕ) where
       rw behind (getD-append-add (tab n g) (b ∷ [] ∷ []) 1 [])
 
 module _ (a : Analysis) where
+  -- queue i's line is one
   queue-at : (i : ℕ) → OneLine (line i (getD (a .queues) i noSize))
   queue-at i = queue-one i (getD (a .queues) i noSize)
 
@@ -221,14 +222,17 @@ module _ (a : Analysis) where
       at : (i : ℕ) → lineAt (textOf a) i ≡ getD (heading-one .body ∷ (tab (a .n) (λ j. queue-at j .body) ++ (busy-one a .body ∷ [] ∷ []))) i []
       at i = ap (λ (ss : List (List ℕ)). getD ss i []) cut-report
 
+  -- and nothing else is
   pub report-is : (t : List ℕ) → IsReport a t ↔ (t ≡ textOf a)
   report-is t = (λ h. report-same h report-text, λ e. rw e report-text)
 
 module _ (N L : ℕ) where
+  -- the text is the line of a refusal
   refusal-text : IsRefusal N L (refusalText N L)
   refusal-text =
       let two : cut 10 (refusalText N L) ≡ refusal-one N L .body ∷ [] ∷ [] = cut-last (refusal-one N L) in
       record { pieces = ap length two; only = rw two (refusal-line N L); ended = rw two }
 
+  -- and nothing else is
   pub refusal-is : (t : List ℕ) → IsRefusal N L t ↔ (t ≡ refusalText N L)
   refusal-is t = (λ h. refusal-same h refusal-text, λ e. rw e refusal-text)

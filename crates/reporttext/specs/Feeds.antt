@@ -2,6 +2,8 @@
 --   feeds t            how many line feeds t has
 --   Plain t            none
 --   OneLine t          t ends in a line feed, and has no other
+--   plain-comma, -numbers
+--                      a number with its comma has none, nor have the numbers of a queue's line
 --   heading-, queue-, busy-, refusal-one
 --                      each line of a report is one, and that of a refusal
 --   report-feeds       a report of n queues has n + 2
@@ -34,6 +36,7 @@ pub record OneLine (t : List ℕ) : Type 0 where
   pub plain : Plain body
   pub ended : t ≡ body ++ (10 ∷ [])
 
+-- no number with its comma has one, nor have the numbers of a queue's line
 pub plain-comma : (n : ℕ) → Plain (column n 44)
 unfolding column occurrences
 plain-comma n = without-append (without-decimal 10 (omega arith) n) (record { none = refl })
@@ -43,6 +46,7 @@ unfolding numbers
 plain-numbers i q =
     without-append (plain-comma i) (without-append (plain-comma (q .x)) (without-append (plain-comma (q .y)) (without-append (plain-comma (q .minimum)) (plain-comma (q .capacity)))))
 
+-- "each line ended by one line feed": a queue's
 unfoldable pub queue-one : (i : ℕ) (q : QueueSize) → OneLine (line i q)
 unfolding line
 queue-one i q = record {
@@ -60,6 +64,7 @@ worded-one w p m n = record {
   ended = ap (λ (t : List ℕ). w ++ t) (sym (append-assoc (column m 44) (decimal n) (10 ∷ []))) ∙ sym (append-assoc w (column m 44 ++ decimal n) (10 ∷ []));
 }
 
+-- so the last line, and that of a refusal
 unfoldable pub busy-one : (a : Analysis) → OneLine (busyLine a)
 unfolding busyLine occurrences worded-one
 busy-one a = worded-one busyWord (record { none = refl }) (a .busy) (a .cycle)
@@ -68,6 +73,7 @@ unfoldable pub refusal-one : (N L : ℕ) → OneLine (refusalText N L)
 unfolding refusalText occurrences worded-one
 refusal-one N L = worded-one refusalWord (record { none = refl }) N L
 
+-- and the first line
 unfoldable pub heading-one : OneLine heading
 unfolding occurrences
 heading-one = record {
