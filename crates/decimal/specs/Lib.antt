@@ -1,3 +1,4 @@
 pub mod Digits
 pub mod Signed
+pub mod Written
 pub mod Figures

@@ -12,6 +12,7 @@ pub mod TickInNumbers
 pub mod PlacesInNumbers
 pub mod RunsInNumbers
 pub mod HandedOut
+pub mod ReportInColumns
 pub mod Demand3
 pub mod Beyond
 pub mod Mixed

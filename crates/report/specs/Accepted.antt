@@ -2,19 +2,23 @@
 --   report-accepts   the call accepts exactly a file that the reader accepts, of an accepted chain, with room for the report
 --   report-fine      and then says number 0 with place 0
 --   report-written   and then answers the report's length; the lent bytes become the report and, past it, stay as they were
-use mathlib.Core.Path.{_≡_, sym}
+--   report-as-read, -analysed, -room
+--                    the call says what the reader says of the file; where that is nothing, what the analysis says of its chain; and where that is nothing, 10 or nothing
+use mathlib.Core.Path.{_≡_, refl, sym, _∙_}
 use mathlib.Core.Bool.{true}
-use mathlib.Core.Logic.{_↔_, Iff·trans}
+use mathlib.Core.Logic.{_↔_, _≢_, Iff·trans}
 use mathlib.Core.List.{List, _++_}
 use Prim.Native.Nat.{ℕ, _≤_}
 use native.Mathlib.Omega.{arith}
 use lib.ListN.{length, drop}
 use Rattle.chain.specs.Tests.{below-false}
-use Rattle.chain.specs.Refusals.{fine, Silent, silent-as, first-fine, or-silents, test-silent}
-use Rattle.chainfile.specs.File.{chainOf}
+use Rattle.chain.specs.Refusals.{fine, Silent, silent-as, first-fine, or-left, or-right, or-silents, test-silent}
+use Rattle.chain.specs.Sound.{sound}
+use Rattle.chainfile.specs.File.{chainOf, readRefusal}
 use Rattle.chainfile.specs.Accepted.{AcceptedFile, read-accepts}
 use Rattle.chainfile.specs.Packed.{written, roomCheck, Output, output-fine}
 use Rattle.chainfile.specs.declared.LengthAnswer.{LengthAnswer}
+use Rattle.sizing.specs.Checks.{analyseRefusal, analyse-parts}
 use Rattle.sizing.specs.Sizes.{analysisOf}
 use Rattle.sizing.specs.Accepted.{Accepted, size-accepts}
 use Rattle.reporttext.specs.Heading.{headed, report-headed}
@@ -43,6 +47,24 @@ module _ (f : List ℕ) (room : ℕ) where
   pub report-fine : Silent (reportRefusal f room) → reportRefusal f room ≡ fine
   unfolding reportRefusal
   report-fine z = first-fine (reportChecks f room) z
+
+  -- the reader speaks first
+  pub report-as-read : readRefusal f .number ≢ 0 → reportRefusal f room ≡ readRefusal f
+  report-as-read n = report-parts f room ∙ sym (or-left _ refl n)
+
+  module _ (read : Silent (readRefusal f)) where
+    -- the chain of a file that is read passes 2, 4 and 5, so the analysis says of it what 6 and 7 say
+    sizes-as : sizeRefusal f ≡ analyseRefusal (chainOf f)
+    unfolding sizeRefusal
+    sizes-as = or-right refl (sound (chainOf f) .1 (read-accepts f .0 read .chain)) refl ∙ sym (analyse-parts (chainOf f))
+
+    -- then the analysis
+    pub report-as-analysed : analyseRefusal (chainOf f) .number ≢ 0 → reportRefusal f room ≡ analyseRefusal (chainOf f)
+    report-as-analysed n = report-parts f room ∙ sym (or-right refl read (or-left _ (sym sizes-as) n))
+
+    -- then 10
+    pub report-as-room : Silent (analyseRefusal (chainOf f)) → reportRefusal f room ≡ roomCheck (length (reportText f)) room
+    report-as-room z = report-parts f room ∙ sym (or-right refl read (or-right (sym sizes-as) z refl))
 
 -- and they begin with the first line
 pub report-written : (f o p : List ℕ) (a : LengthAnswer) → Output (reportRefusal f (length o)) (reportText f) o p a → Silent (reportRefusal f (length o))

@@ -1,4 +1,5 @@
 -- The line of a refusal (01, Report program: "a refusal prints only the line `refused,number,place`").
+--   refusalWord       `refused,`
 --   refusalText N L   the line's bytes
 --   longestRefusal    bytes enough for every such line
 --   refusal-short     it has no more
@@ -8,10 +9,13 @@ use native.Mathlib.Omega.{arith}
 use lib.ListN.{length, length-append}
 use Rattle.decimal.specs.Digits.{column, column-word}
 
+abbrev pub refusalWord : List ℕ
+refusalWord = 114 ∷ 101 ∷ 102 ∷ 117 ∷ 115 ∷ 101 ∷ 100 ∷ 44 ∷ []
+
 -- "refused", the number and the place, a comma between them and a line feed behind
 unfoldable pub refusalText : ℕ → ℕ → List ℕ
 unfolding column
-refusalText N L = (114 ∷ 101 ∷ 102 ∷ 117 ∷ 115 ∷ 101 ∷ 100 ∷ 44 ∷ []) ++ (column N 44 ++ column L 10)
+refusalText N L = refusalWord ++ (column N 44 ++ column L 10)
 
 -- 8 for the word and its comma, 11 for each number with the byte behind it
 abbrev pub longestRefusal : ℕ
