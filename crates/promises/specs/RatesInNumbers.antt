@@ -17,26 +17,19 @@
 --                            what it reports of a chain that it accepts
 --   checked-, fresh-, fire-begins
 --                            a check for a run, a fresh start and a manual firing answer the numbers of the analysis exactly where it does, with its place (and so does every
---                            run and deadline question, PlacesInNumbers)
---   f, o, p, a               the bytes of a file; lent bytes before and after a report, whose answer is a (Files)
---   report-six, -seven       and a report does of the chain that is read
+--                            run and deadline question, PlacesInNumbers, and a report of the chain that is read, ReportInColumns)
 use mathlib.Core.Path.{_≡_, refl, sym, ap, subst, _∙_}
 use mathlib.Core.Logic.{_↔_, _≢_, _⊎_, inl, inr, ⊎-elim, by-cases, Iff·trans, Iff·symm, Iff·rfl}
-use mathlib.Core.List.{List, [], _∷_, _++_}
+use mathlib.Core.List.{[], _∷_}
 use Prim.Native.Nat.{ℕ, zero, suc, _+_, _*_, _/_, _≤_, _<_, _∣_}
 use native.Mathlib.Nat.{mul-div-cancel-left, mul-div-cancel', dvd-mul-right-of-dvd, dvd-antisymm, pos-of-dvd-of-pos}
 use native.Mathlib.Decide.{decLe}
 use native.Mathlib.Omega.{arith}
-use lib.ListN.{length}
-use borrow.Author.Tests.{eq-eqb}
-use Rattle.ardenquill.specs.Chains as chains
-use Rattle.ardenquill.specs.Chains.{workOf, refused, Silents, first-silent, chainChecks, Sound, sound-is}
+use Rattle.ardenquill.specs.Chains.{workOf, Silents, chainChecks, Sound, sound-is}
 use Rattle.ardenquill.specs.Analyses.{gcd, gcd-dvd-left, gcd-dvd-right, gcd-greatest, common, nextX, nextY, xOf, yOf, y-pos, busyIn, busyOf, cycleOf, parts-exact, InLimit, FirstTooLarge, rateCheck, sized, analysisOf, analyseRefusal, analyseAnswer, analyse-6, analyse-7, runRefusal, runAnswer, run-earlier, rates-silent, Accepted}
 use Rattle.ardenquill.specs.Runs as runs
 use Rattle.ardenquill.specs.Runs.{freshAnswer, fireRefusal, fireAnswer, fire-earlier}
-use Rattle.ardenquill.specs.Files.{chainOf, readChecks, readRefusal, readAnswer, read-accepts, Output}
-use Rattle.ardenquill.specs.Reports.{reportText, reportRefusal, report-6, report-7}
-use Rattle.ardenquill.specs.Records.{Refusal, Chain, LengthAnswer, Run}
+use Rattle.ardenquill.specs.Records.{Chain, Run}
 use Rattle.promises.specs.Order.{LowestOf, said}
 use Rattle.promises.specs.Replay.{pOf, cOf, Accepts, line, accepts-is}
 use Rattle.promises.specs.Laws.{report-is, x-is, y-is, silents-append, silents-parts}
@@ -269,38 +262,3 @@ module _ (c : Chain) (N L : ℕ) (some : N ≢ 0) (early : N < 8) where
   pub fire-begins : (s : Run) (i : ℕ) → ((fireAnswer c s i .number ≡ N) × (fireAnswer c s i .place ≡ L)) ↔ ((analyseAnswer c .number ≡ N) × (analyseAnswer c .place ≡ L))
   unfolding fireAnswer runs.answered analyseAnswer sized
   fire-begins s i = Iff·trans (said (fireRefusal c s i) N L) (Iff·trans (fire-earlier c s i L N some (omega arith)) (Iff·symm (said (analyseRefusal c) N L)))
-
--- "Analysis checks also 6, 7": of the chain of a file, too, that is reported on
-module _ (f o p : List ℕ) (a : LengthAnswer) (w : Output (reportRefusal f (length o)) (reportText f) o p a) (L : ℕ) where
-  -- number and place of the answer
-  report-said : (N : ℕ) → ((a .number ≡ N) × (a .place ≡ L)) ↔ (reportRefusal f (length o) ≡ refused N L)
-  report-said N = rw (w .answer) (said (reportRefusal f (length o)) N L)
-
-  -- a file that is read has a chain that 2, 4 and 5 pass
-  read-chain : (later : List Refusal) (Reason : Type 0) (N : ℕ) → (analyseRefusal (chainOf f) ≡ refused N L) ↔ (Silents (chainChecks (chainOf f) ++ later) × Reason)
-      → (Silents (readChecks f ++ later) × Reason) ↔ ((readAnswer f .number ≡ 0) × ((analyseAnswer (readAnswer f .chain) .number ≡ N) × (analyseAnswer (readAnswer f .chain) .place ≡ L)))
-  unfolding readAnswer readRefusal chains.answered analyseAnswer sized
-  read-chain later Reason N is = (
-    λ h.
-        let quiet = silents-parts (readChecks f) later (h .0) in
-        let z : readRefusal f .number ≡ 0 = first-silent (readChecks f) .1 (quiet .0) in
-        let s : Sound c = read-accepts f .0 z .chain in
-        (z, rw (chain-is z) (said (analyseRefusal c) N L .1 (is .1 (silents-append (chainChecks c) later (chain-silent c .1 s) (quiet .1), h .1)))),
-    λ h.
-        let b = is .0 (said (analyseRefusal c) N L .0 (rw (chain-is (h .0)) at (h .1))) in
-        (silents-append (readChecks f) later (first-silent (readChecks f) .0 (h .0)) (silents-parts (chainChecks c) later (b .0) .1), b .1),
-  )
-    where
-      c : Chain
-      c = chainOf f
-
-      chain-is : readRefusal f .number ≡ 0 → readAnswer f .chain ≡ c
-      chain-is z = simp (eq-eqb _ _ z)
-
-  -- 6 of a report
-  pub report-six : ((a .number ≡ 6) × (a .place ≡ L)) ↔ ((readAnswer f .number ≡ 0) × ((analyseAnswer (readAnswer f .chain) .number ≡ 6) × (analyseAnswer (readAnswer f .chain) .place ≡ L)))
-  report-six = Iff·trans (report-said 6) (Iff·trans (report-6 f (length o) L) (read-chain [] _ 6 (analyse-6 (chainOf f) L)))
-
-  -- and 7
-  pub report-seven : ((a .number ≡ 7) × (a .place ≡ L)) ↔ ((readAnswer f .number ≡ 0) × ((analyseAnswer (readAnswer f .chain) .number ≡ 7) × (analyseAnswer (readAnswer f .chain) .place ≡ L)))
-  report-seven = Iff·trans (report-said 7) (Iff·trans (report-7 f (length o) L) (read-chain (rateCheck (chainOf f) ∷ []) _ 7 (analyse-7 (chainOf f) L)))
