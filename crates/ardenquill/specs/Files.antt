@@ -8,3 +8,9 @@ unfoldable pub use Rattle.chainfile.specs.Packed.{packed, writeRefusal}
 pub use Rattle.chainfile.specs.Accepted.{Placed, AcceptedFile, read-accepts, write-accepts}
 pub use Rattle.chainfile.specs.RoundTrip.{packedFile, read-of-write, trimmed-read, write-of-read, packed-again, ignored}
 pub use Rattle.chainfile.specs.Places.{There, field-there, over-there}
+unfoldable pub use Rattle.words.specs.Words.{bytesOf, fourAt}
+pub use Rattle.words.specs.Words.{word-there, word-at, word-alike, bytes-length}
+pub use Rattle.words.specs.Rows.{row-there, same-row}
+unfoldable pub use Rattle.chainfile.specs.File.{chainOf, offsetCheck}
+pub use Rattle.chainfile.specs.File.{length-silent, bad-table, good-table, overlap-false}
+pub use Rattle.chainfile.specs.Accepted.{read-fine, write-fine}

@@ -16,3 +16,4 @@ pub use Rattle.report.specs.Checks.{reportText, reportChecks, report-1, report-
 unfoldable pub use Rattle.report.specs.Checks.{reportRefusal, sizeRefusal}
 pub use Rattle.report.specs.Accepted.{report-accepts, report-written}
 pub use Rattle.report.specs.Room.{fileRefusal, report-room, report-roomy, refusal-room}
+pub use Rattle.report.specs.Checks.{report-parts}
