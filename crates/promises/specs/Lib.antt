@@ -5,6 +5,8 @@ pub mod ByTicks
 pub mod Demand1
 pub mod Demand2
 pub mod TickInNumbers
+pub mod LowestPlace
+pub mod RecordInNumbers
 pub mod Demand3
 pub mod Beyond
 pub mod Replayed
