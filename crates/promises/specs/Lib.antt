@@ -7,6 +7,7 @@ pub mod Demand2
 pub mod TickInNumbers
 pub mod LowestPlace
 pub mod RecordInNumbers
+pub mod FileInBytes
 pub mod Demand3
 pub mod Beyond
 pub mod Replayed
