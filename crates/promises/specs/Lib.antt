@@ -8,6 +8,7 @@ pub mod TickInNumbers
 pub mod LowestPlace
 pub mod RecordInNumbers
 pub mod FileInBytes
+pub mod FilesAlike
 pub mod Demand3
 pub mod Beyond
 pub mod Replayed
