@@ -9,6 +9,7 @@ pub mod LowestPlace
 pub mod RecordInNumbers
 pub mod FileInBytes
 pub mod FilesAlike
+pub mod WriterInBytes
 pub mod Demand3
 pub mod Beyond
 pub mod Replayed
