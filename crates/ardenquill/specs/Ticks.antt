@@ -5,8 +5,8 @@ pub use Rattle.instants.specs.Steps.{numberOf, valuesOf, kindOf, tickOf, atOf, 
 unfoldable pub use Rattle.instants.specs.Checks.{spentCheck, tickRefusal, deadlineRunRefusal, outcomeOf, tickAnswer, deadlineRunAnswer}
 pub use Rattle.instants.specs.Checks.{longest, clockCheck, spentTest, tickChecks, lengthCheck, deadlineRunChecks}
 pub use Rattle.instants.specs.Refusals.{clock-exact, clock-silent, clock-only, FirstSpent, LateOrSpent, spent-exact, spent-silent, spent-only, length-exact, length-silent, length-only, tick-parts, tick-17, tick-9, tick-earlier, tickNumbers, tick-numbered, tick-accepts, Ticking, ticking-is, deadline-run-parts, deadline-run-9, deadline-run-earlier, deadlineRunNumbers, deadline-run-numbered, deadline-run-accepts, ranAs, refusedAs, tick-ran, tick-refused, deadline-run-ran, deadline-run-refused}
-pub use Rattle.instants.specs.Runs.{onward-clean, onward-none, onward-then, instants-ticks, ticks-more}
-pub use Rattle.instants.specs.Kept.{Running, TickStep, Countable, tick-step, begun-stays}
+pub use Rattle.instants.specs.Runs.{onward-clean, onward-none, onward-then, instants-ticks, ticks-more, clean-or}
+pub use Rattle.instants.specs.Kept.{Running, TickStep, Countable, tick-step, begun-stays, fired-running}
 pub use Rattle.instants.specs.Lacking.{Within, Past, FirstLacking, lacking-exact, lacking-silent}
 pub use Rattle.instants.specs.Fresh.{fresh-running, fresh-rests, run-is-ticks, Paced, fresh-paced, paced-countable, tick-paced, ticks-paced}
 pub use Rattle.instants.specs.Best.{First, Best, choose-best, best-unique, choose-is, chosen-best, chosen-only, choose-shift, chosen-shift}
@@ -21,7 +21,7 @@ unfoldable pub use Rattle.instants.specs.Totals.{spentOn, HowMany}
 pub use Rattle.instants.specs.Totals.{workedBy, source-work, other-work, own-work, total, SomeOver, some-over, Waits, tick-total, how-many-one, run-clock, run-source, run-work}
 unfoldable pub use Rattle.traces.specs.Trace.{tracing, sourceEntry, finishEntry, finishTrace, tickTrace, trace}
 pub use Rattle.traces.specs.Trace.{Entry, nodes, resting, Replays}
-pub use Rattle.traces.specs.Traced.{tick-traced, traced, run-traced, run-counted, run-balance, run-naming}
+pub use Rattle.traces.specs.Traced.{tick-traced, traced, run-traced, run-counted, run-balance, run-naming, replays-none, replays-one, replays-then}
 unfoldable pub use Rattle.traces.specs.Rising.{Rising}
 pub use Rattle.traces.specs.Rising.{tick-rising, trace-rising, run-rising}
 unfoldable pub use Rattle.traces.specs.Entries.{instantsOf}
@@ -29,6 +29,3 @@ pub use Rattle.traces.specs.Entries.{instants-append, instants-times, entriesOf
 pub use Rattle.tickpast.specs.Deadlines.{deadline-alike, index-alike, question-alike}
 pub use Rattle.tickpast.specs.Slots.{KeptSlots}
 pub use Rattle.tickpast.specs.Answers.{AlikeAnswers, past-n, past-kept, whole-kept, tick-answer-same, deadline-run-alike, deadline-run-kept, deadline-run-whole}
-pub use Rattle.instants.specs.Kept.{fired-running}
-pub use Rattle.traces.specs.Traced.{replays-none, replays-one, replays-then}
-pub use Rattle.instants.specs.Runs.{clean-or}
