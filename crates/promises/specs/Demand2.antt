@@ -4,10 +4,9 @@
 --                            p, τ and c of queue j, and e of N_(j+1)
 --   Accepts c, line c j, rateX c i, rateY c i
 --                            analyse does not refuse c; what it answers of queue j, and of N_i's rate (Replay)
---   Sound c, AcceptedFile f, Accepted c
---                            a record, a file and a chain that no check refuses, in words (Chains, Files, Analyses)
---   analyse-, read-, write-, report-when
---                            when each of these calls is not refused
+--   Accepted c               no check of the analysis refuses c (Analyses). When a chain is accepted, a record is written, a file is read and reported on, and else with which
+--                            number and place, is said by their numbers and bytes: accepts-when (RatesInNumbers), record-passes (RecordInNumbers), write-when (WriterInBytes),
+--                            read-exactly (FileInBytes), report-columns (ReportInColumns)
 --   rate-x, rate-y           "Node rates"
 --   Smallest, smallest, papers-agree, naming-count, unwritten, written
 --                            "smallest capacities", as 000 and 004 write them; the naming count of demand 3; the capacity in force and the margin
@@ -67,8 +66,8 @@ use lib.IntN.{pos, _+ℤ_}
 use lib.ListN.{length, getD, take, drop, replicate}
 use borrow.Author.Tests.{le-leb}
 use Rattle.ardenquill.specs.Chains as chains
-use Rattle.ardenquill.specs.Chains.{Silents, tab, rowOf, workOf, trimmed, Sound}
-use Rattle.ardenquill.specs.Files.{countOf, queuesAt, nodesAt, readAnswer, packedLength, packed, writeRefusal, Output, Bytes, packedFile, read-of-write, write-of-read, packed-again, chainOf, AcceptedFile, read-accepts, write-accepts}
+use Rattle.ardenquill.specs.Chains.{Silents, tab, rowOf, workOf, trimmed}
+use Rattle.ardenquill.specs.Files.{countOf, queuesAt, nodesAt, readAnswer, packedLength, packed, writeRefusal, Output, Bytes, packedFile, read-of-write, write-of-read, packed-again}
 use Rattle.ardenquill.specs.Analyses.{ceil, gcd, gcd-pos-left, residue, residue-000, residue-004, naming, common, nextX, nextY, xOf, yOf, y-multiple, busyIn, runChecks, analysisOf, analyseAnswer, Accepted, capacity-minimum, capacity-written, margin-unwritten, margin-balance}
 use Rattle.ardenquill.specs.Runs as runs
 use Rattle.ardenquill.specs.Runs.{countAt, heldAt, freshRun, freshAnswer, fresh-empty, fresh-state, fired, May, stateCheck, state-silent, Whole, Firing, firing-is, fireAnswer, fire-accepts, fire-accepted, count-fired, count-other, held-output, held-other}
@@ -80,33 +79,14 @@ use Rattle.ardenquill.specs.Ticks as ticks
 use Rattle.ardenquill.specs.Ticks.{kindOf, tickOf, atOf, outcomeOf, tickAnswer, deadlineRunAnswer, ranAs, left, tickRefusal, tick-accepts, tick-9, deadline-run-accepts, TickOnce, once-counts, once-keeps, Spills, Lacks, OneTick, one-overflows, one-lacks, one-cleans, one-stays, one-leaves, TicksTo, answer-one, answer-exactly, Ends, HowMany, total, Waits, Rising, trace, entriesOf, FiredAt, source-entries, entries-when, entries-apart, entries-first, entries-rise}
 use Rattle.ardenquill.specs.Flat.{coded, flat}
 use Rattle.ardenquill.specs.Records.{Chain, ChainAnswer, LengthAnswer, Analysis, Run, Outcome, Clean, Ticked, TickAnswer}
-use Rattle.ardenquill.specs.Reports.{reportText, reportRefusal, report-accepts}
 use Rattle.promises.specs.Order.{LowestOf, said}
 use Rattle.promises.specs.Replay.{pOf, τOf, cOf, Spent, Accepts, line, rateX, rateY, replayAnswer, Fires, AllSlots, Passes, Ample, Low, NearestFirst, Runs, accepts-is, fires-is}
-use Rattle.promises.specs.Laws.{report-is, x-is, y-is, by-is, capacity-is, rate-x-is, rate-y-is, last, minimum-by, minimum-as, largest-multiple, may-run-is, run-quiet, silents-append, whole, passes-is, index-down, taken, state-is, moment, parts, sound, ends-in, keeps, minimum-is, margin-is, output-silent, coded-overflowed, coded-undated, coded-clean, one-firing, over-is}
+use Rattle.promises.specs.Laws.{report-is, x-is, y-is, by-is, capacity-is, rate-x-is, rate-y-is, last, minimum-by, minimum-as, largest-multiple, may-run-is, run-quiet, silents-append, whole, passes-is, index-down, taken, state-is, moment, parts, sound, ends-in, keeps, minimum-is, margin-is, coded-overflowed, coded-undated, coded-clean, one-firing, over-is}
 use Rattle.promises.specs.ByTicks.{DeadlineRuns, ticksFrom, ticks-are-run}
 use Rattle.promises.specs.Outcomes.{Says, Cleanly, OverflowedAt, UndatedAt, cleanly-is, overflowed-is, undated-is, says-tick}
 use Rattle.promises.specs.ByCounts.{rule-exhausted, exact-count}
 use Rattle.promises.specs.Zeros.{zeroRun}
 use Rattle.promises.specs.Demand1.{tick-stays, deadline-run-empty}
-
--- 01's "a chain it doesn't refuse is accepted": its fields in their ranges, no consume above its threshold, every rate within the limit, and no overload
-pub analyse-when : (c : Chain) → Accepts c ↔ Accepted c
-analyse-when = accepts-is
-
--- 01's "The reader checks 1 to 5": a file is read exactly when its length is right, its tables are placed in it and its chain is sound
-pub read-when : (f : List ℕ) → (readAnswer f .number ≡ 0) ↔ AcceptedFile f
-unfolding readAnswer chains.answered
-read-when = read-accepts
-
--- 01's "The writer checks 2, 4, 5, 10": a chain is written into lent bytes o exactly when it is sound and they are enough
-pub write-when : (c : Chain) (o p : List ℕ) (a : LengthAnswer) → Output (writeRefusal c (length o)) (packed c) o p a → (a .number ≡ 0) ↔ (Sound c × (packedLength (c .n) ≤ length o))
-write-when c o p a w = Iff·trans (output-silent w) (write-accepts c (length o))
-
--- and a file is reported on exactly when it is read, its chain is accepted, and there is room
-pub report-when : (f o p : List ℕ) (a : LengthAnswer) → Output (reportRefusal f (length o)) (reportText f) o p a
-    → (a .number ≡ 0) ↔ (AcceptedFile f × (Accepted (chainOf f) × (length (reportText f) ≤ length o)))
-report-when f o p a w = Iff·trans (output-silent w) (report-accepts f (length o))
 
 -- 01's "with g = gcd(p,c), the largest multiple of g below τ, plus p"
 pub record Smallest (p τ c b : ℕ) : Type 0 where
