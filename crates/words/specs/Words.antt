@@ -4,6 +4,7 @@
 --   fourAt s at         the four bytes of s from `at` on, as a number
 --   wordAt s at         the word of s at `at`; 0 where it would pass the end
 --   word-there, -past   its two cases
+--   lowest-first        one word in numbers
 --   bytes-append, -length, then-words
 --                       words in a row: their bytes are in a row, four to a word, and written one after the other
 --   word-at             word k of the bytes of words is word k: the round trip of every word
@@ -51,6 +52,11 @@ word-there s at h = simp (le-leb _ _ h)
 pub word-past : (s : List ℕ) (at : ℕ) → length s < at + 4 → wordAt s at ≡ 0
 unfolding wordAt
 word-past s at h = simp (lt-leb _ _ h)
+
+-- "little-endian", by numbers alone: the bytes 1, 2, 3 and 4 are the word 1 + 2 × 256 + 3 × 65,536 + 4 × 16,777,216, read and written
+pub lowest-first : (wordAt (1 ∷ 2 ∷ 3 ∷ 4 ∷ []) 0 ≡ 67305985) × (bytesOf (67305985 ∷ []) ≡ 1 ∷ 2 ∷ 3 ∷ 4 ∷ [])
+unfolding wordAt bytesOf
+lowest-first = (refl, refl)
 
 pub bytes-append : (s t : List ℕ) → bytesOf (s ++ t) ≡ bytesOf s ++ bytesOf t
 unfolding bytesOf
