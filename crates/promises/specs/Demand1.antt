@@ -19,8 +19,8 @@
 --   writes-nothing           a refused call leaves every lent byte
 --   fire-stays, tick-stays, lent-stays
 --                            and gives back the run state that it was handed, or leaves it where it was lent
---   AlikeChains c d, AlikeRuns n s t
---                            chains, and states, that differ in slots past n only (Runs)
+--   AlikeChains c d, AlikeRuns n s t, SlotsKept n s t
+--                            chains, and states, that differ in slots past n only (Runs; chains-alike and runs-alike, InSlots); t has the slots past n of s (InSlots)
 --   chain-past, write-past, fire-past, tick-past, fire-kept, tick-kept
 --                            slots past n are neither read nor changed
 use mathlib.Core.Path.{_≡_, refl, sym, ap, subst, _∙_}
@@ -29,7 +29,7 @@ use mathlib.Core.List.{List, [], _∷_}
 use Prim.Native.Nat.{ℕ, suc}
 use native.Mathlib.Omega.{arith}
 use lib.Dec.{ltb, leb}
-use lib.ListN.{length, replicate, length-replicate}
+use lib.ListN.{length, getD, replicate, length-replicate}
 use borrow.Author.Tests.{eq-eqb, ne-eqb}
 use Rattle.ardenquill.specs.Records.{Refusal, Chain, LengthAnswer, Run}
 use Rattle.ardenquill.specs.Chains as chains
@@ -38,7 +38,7 @@ use Rattle.ardenquill.specs.Files.{readChecks, read-numbered, readRefusal, read
 use Rattle.ardenquill.specs.Analyses.{start, sized, sizeOf, analysisOf, analyseChecks, analyse-numbered, analyseRefusal, analyseAnswer, runChecks, run-numbered, runRefusal, runAnswer}
 use Rattle.ardenquill.specs.Reports.{refusalText, reportText, reportChecks, report-numbered, reportRefusal}
 use Rattle.ardenquill.specs.Runs as runs
-use Rattle.ardenquill.specs.Runs.{zeros, freshRun, freshAnswer, fresh-state, fireChecks, fire-numbered, fireRefusal, fireAnswer, fresh-refused, fire-refused, AlikeChains, AlikeRuns, KeptPast, analysis-alike, run-analysis-alike, fresh-alike, fire-alike}
+use Rattle.ardenquill.specs.Runs.{zeros, freshRun, freshAnswer, fresh-state, fireChecks, fire-numbered, fireRefusal, fireAnswer, fresh-refused, fire-refused, AlikeChains, AlikeRuns, analysis-alike, run-analysis-alike, fresh-alike, fire-alike}
 use Rattle.ardenquill.specs.Immediate.{immediateChecks, immediate-numbered, immediateRefusal, immediateAnswer, immediate-refused, immediate-alike}
 use Rattle.ardenquill.specs.Deadlines.{answeredDue, deadlineChecks, deadline-numbered, deadlineRefusal, deadlineAnswer, deadline-refused}
 use Rattle.ardenquill.specs.Flat.{coded}
@@ -49,6 +49,7 @@ use Rattle.promises.specs.Order.{InOrder, in-order}
 use Rattle.promises.specs.Outcomes.{Cleanly, cleanly-is}
 use Rattle.promises.specs.Zeros.{zeroRow, zeroLine, zeroChain, zeroAnalysis, zeroRun, ZeroPast, slots-zero, ChainSlots, RunSlots}
 use Rattle.promises.specs.Replay.{AllSlots}
+use Rattle.promises.specs.InSlots.{SlotsKept}
 use Rattle.promises.specs.Laws.{whole, keeps, write-alike}
 
 -- "Bad input gets one of the listed refusal numbers with its place, in the listed order": a file that is read
@@ -221,11 +222,11 @@ module _ (c : Chain) (s : Run) where
   lent-stays t r said n = said .0 ∙ tick-stays (λ z. n (ap (λ (x : OutcomeAnswer). x .number) (said .1) ∙ z)) .1
 
   -- 01's "In every run state the slots past n are neither read nor changed", not changed: each firing and each tick leaves its own
-  pub fire-kept : (i : ℕ) → KeptPast (c .n) s (fireAnswer c s i .run)
-  fire-kept = runs.past-kept c s
+  pub fire-kept : (i : ℕ) → SlotsKept (c .n) s (fireAnswer c s i .run)
+  fire-kept i = let k = runs.past-kept c s i in record { counts = k .counts; held = k .held; done = λ j l. ap (λ (x : List ℕ). getD x j 0) (k .done) }
 
-  pub tick-kept : KeptSlots (c .n) s (tickAnswer c s .run)
-  tick-kept = ticks.past-kept c s
+  pub tick-kept : SlotsKept (c .n) s (tickAnswer c s .run)
+  tick-kept = let k = ticks.past-kept c s in record { counts = k .counts .slots; held = k .held .slots; done = k .done .slots }
 
 -- and not read: chains and states that differ there only are answered alike
 module _ {c d : Chain} (a : AlikeChains c d) where

@@ -4,8 +4,10 @@
 --   Accepts c, line c j      the analysis does not refuse c; what it answers of queue j: b is minimum, the capacity in force capacity (Replay)
 --   LowestOf Reason L        L has the reason, and none before it has (Order)
 --   MayRun c, PassesAll c s  none of 2 to 8 has a reason to refuse c (checked-silent); 17 has none at any queue of s (Ample, Passes: Replay)
---   immediate-, deadline-, tick-, deadline-run-begins
+--   immediate-, deadline-, tick-, deadline-run-begins and -record
 --                            what is answered of a chain that is checked for a run every run and deadline question answers, too
+--   checked-when, checked-analysis
+--                            when that is not refused, and that it is then answered its analysis
 --   TooSmall c j, checked-eight
 --                            8 at queue j; and when it is answered
 --   f, o, p, a               the bytes of a file; lent bytes before and after a call, whose answer is a: Output says what a call that writes does (Files)
@@ -27,7 +29,7 @@ use Prim.Native.Nat.{ℕ, zero, suc, _+_, _*_, _≤_, _<_}
 use native.Mathlib.Decide.{ℕ-discrete, decLe, decLt}
 use native.Mathlib.Omega.{arith}
 use lib.ListN.{length, getD}
-use borrow.Author.Tests.{lt-leb}
+use borrow.Author.Tests.{lt-leb, eq-eqb}
 use Rattle.ardenquill.specs.Chains as chains
 use Rattle.ardenquill.specs.Chains.{rowOf, workOf, Silent, Silents, first-silent, factoryRefusal, factoryAnswer, factory-exact}
 use Rattle.ardenquill.specs.Analyses.{start, minimumOf, sized, analyseChecks, analyseRefusal, analyseAnswer, runChecks, runRefusal, runAnswer, run-accepts, run-8, Enough, FirstShort, Accepted}
@@ -42,6 +44,8 @@ use Rattle.ardenquill.specs.Records.{Chain, LengthAnswer, Run}
 use Rattle.promises.specs.Order.{not-listed, LowestOf, said}
 use Rattle.promises.specs.Replay.{pOf, τOf, cOf, Accepts, line, Spent, Passes, Ample, accepts-is}
 use Rattle.promises.specs.Laws.{minimum-is, capacity-is, may-run-is, silents-last, passes-at, passes-is, over-is}
+use Rattle.promises.specs.RecordInNumbers.{RecordChecked, checked-as}
+use Rattle.promises.specs.RatesInNumbers.{checked-record}
 use Rattle.promises.specs.Demand1.{factory-numbers, analyse-numbers, fresh-numbers, fire-numbers, write-numbers, report-numbers}
 
 -- none of 2 to 8 has a reason to refuse the chain
@@ -85,6 +89,34 @@ module _ (c : Chain) (N L : ℕ) (some : N ≢ 0) (early : N < 9) where
   pub deadline-run-begins : (T : ℕ) → ((deadlineRunAnswer c T .number ≡ N) × (deadlineRunAnswer c T .place ≡ L)) ↔ ((runAnswer c .number ≡ N) × (runAnswer c .place ≡ L))
   unfolding deadlineRunAnswer outcomeOf runAnswer sized
   deadline-run-begins T = Iff·trans (said (deadlineRunRefusal c T) N L) (Iff·trans (deadline-run-earlier c T N L some (λ e. omega arith)) (Iff·symm (said (runRefusal c) N L)))
+
+-- so 2, 4 and 5 of them are those of the analysis
+module _ (c : Chain) where
+  -- an immediate run
+  pub immediate-record : (k : ℕ) → RecordChecked c (immediateAnswer c k .number) (immediateAnswer c k .place)
+  immediate-record k = checked-as c (λ K L some low. immediate-begins c K L some (omega arith) k) (checked-record c)
+
+  -- a deadline question
+  pub deadline-record : (i k : ℕ) → RecordChecked c (deadlineAnswer c i k .number) (deadlineAnswer c i k .place)
+  deadline-record i k = checked-as c (λ K L some low. deadline-begins c K L some (omega arith) i k) (checked-record c)
+
+  -- a tick
+  pub tick-record : (s : Run) → RecordChecked c (tickAnswer c s .number) (tickAnswer c s .place)
+  tick-record s = checked-as c (λ K L some low. tick-begins c K L some (omega arith) s) (checked-record c)
+
+  -- a deadline run
+  pub deadline-run-record : (T : ℕ) → RecordChecked c (deadlineRunAnswer c T .number) (deadlineRunAnswer c T .place)
+  deadline-run-record T = checked-as c (λ K L some low. deadline-run-begins c K L some (omega arith) T) (checked-record c)
+
+  -- a chain that is checked for a run is not refused exactly where none of 2 to 8 has a reason
+  pub checked-when : (runAnswer c .number ≡ 0) ↔ MayRun c
+  unfolding runAnswer sized
+  checked-when = Iff·trans (run-accepts c) (may-run-is c)
+
+  -- and then it is answered its analysis
+  pub checked-analysis : runAnswer c .number ≡ 0 → runAnswer c .analysis ≡ analyseAnswer c .analysis
+  unfolding runAnswer analyseAnswer sized
+  checked-analysis z = let ok : analyseRefusal c .number ≡ 0 = accepts-is c .1 (run-accepts c .0 z .0) in simp (eq-eqb _ _ z, eq-eqb _ _ ok)
 
 -- 8's "B (not 0) below b", at queue j
 abbrev pub TooSmall : Chain → ℕ → Type 0

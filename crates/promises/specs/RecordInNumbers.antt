@@ -1,7 +1,7 @@
 -- A chain handed in as a record, refused 2, 4 or 5, by its numbers and the byte offsets of its packed file: of the words by which these checks are defined none
 -- stands in what is said of the calls.
 --   c, q, w, L, M            a chain, the byte offsets of its queue table and of its node table, byte offsets
---   rowOf c i, workOf c i    slot i of the record's queues, and of its execution times (slots-are)
+--   rowOf c i, workOf c i    slot i of the record's queues, and of its execution times (InSlots)
 --   WrongCount n, RightCount n
 --                            n is 0 or above 16, and 1 to 16
 --   OutInRow r at L          the word at L of the row r, which stands at `at`, is out of its range
@@ -14,9 +14,10 @@
 --   Fine c q w               no word is out of its range, and no c is above its τ
 --   range-first, -silent, order-first, fine-is
 --                            what the checks 4 and 5 say, the tables standing anywhere, and which chain is sound, in these words; the calls below and FileInBytes cite them
+--   GoodRecord c, good-is    so is a record whose tables stand as in its packed file
 --   RecordChecked c N P      a call that answers number N and place P says 2, 4 and 5 exactly so; record-passes: and none of them exactly where all is fine
---   analyse-, checked-, fresh-, fire-, immediate-, deadline-, tick-, deadline-run-, write-record
---                            each call that is handed a record does; write-room: and 10 of the writer
+--   analyse-, write-record   the analysis and the writer do; write-room: and 10 of the writer. checked-as: so does every call that answers these numbers where one of them does
+--                            (RatesInNumbers and PlacesInNumbers: -begins, -record)
 use mathlib.Core.Path.{_≡_, refl}
 use mathlib.Core.Logic.{_↔_, _≢_, _⊎_, inl, inr, ⊎-elim, by-cases, Iff·symm, Iff·trans, Iff·and, Iff·rfl}
 use mathlib.Core.List.{List, [], _∷_}
@@ -27,21 +28,10 @@ use native.Mathlib.Omega.{arith}
 use lib.ListN.{length, getD}
 use Rattle.ardenquill.specs.Chains.{Out, In, outside-true, outside-false, sum-iff, refused, orElse, first, Silent, Silents, or-says, or-silents, all-silent, test-exact, test-silent, tab, row, rowOf, workOf, Field, field, ticks, rowFields, FieldOut, FirstOut, FirstOver, fields, outOfRange, overdrawn, countCheck, rangeCheck, orderCheck, recordRange, rowRange, nodeRange, range-parts, count-silent, row-silent, range-exact, order-exact, range-only, order-only, Sound, sound-is}
 use Rattle.ardenquill.specs.Files.{packed, writeRefusal, Output, write-2, write-4, write-5, write-10}
-use Rattle.ardenquill.specs.Analyses.{sized, analyseRefusal, analyseAnswer, analyse-2, analyse-4, analyse-5, runAnswer}
-use Rattle.ardenquill.specs.Runs.{freshAnswer, fireAnswer}
-use Rattle.ardenquill.specs.Immediate.{immediateAnswer}
-use Rattle.ardenquill.specs.Deadlines.{deadlineAnswer}
-use Rattle.ardenquill.specs.Ticks.{tickAnswer, deadlineRunAnswer}
-use Rattle.ardenquill.specs.Records.{Refusal, Queue, Chain, LengthAnswer, Run}
+use Rattle.ardenquill.specs.Analyses.{sized, analyseRefusal, analyseAnswer, analyse-2, analyse-4, analyse-5}
+use Rattle.ardenquill.specs.Records.{Refusal, Queue, Chain, LengthAnswer}
 use Rattle.promises.specs.Order.{LowestOf, said}
-use Rattle.promises.specs.RatesInNumbers.{checked-begins, fresh-begins, fire-begins}
-use Rattle.promises.specs.PlacesInNumbers.{immediate-begins, deadline-begins, tick-begins, deadline-run-begins}
 use Rattle.promises.specs.LowestPlace.{Finds, Among, finds-as, finds-then, finds-all}
-
--- 01's "A queue row has five words": the row of queue i is slot i, and "the execution time e" of the node behind it is slot i of the others; a slot that is not there is zero
-pub slots-are : (c : Chain) (i : ℕ)
-    → (rowOf c i ≡ getD (c .queues) i (record { produce = 0; threshold = 0; consume = 0; capacity = 0; reserved = 0 })) × (workOf c i ≡ getD (c .work) i 0)
-slots-are c i = (refl, refl)
 
 -- 2, "n is 0 or above 16", and what it lets pass
 abbrev pub WrongCount : ℕ → Type 0
@@ -99,6 +89,10 @@ pub record FirstAbove (c : Chain) (q L : ℕ) : Type 0 where
 pub record Fine (c : Chain) (q w : ℕ) : Type 0 where
   pub ranges : (L : ℕ) → OutAt c q w L → ⊥
   pub order : (i : ℕ) → i < c .n → rowOf c i .consume ≤ rowOf c i .threshold
+
+-- a record that 2, 4 and 5 have no reason to refuse
+abbrev pub GoodRecord : Chain → Type 0
+GoodRecord c = RightCount (c .n) × Fine c 20 (20 + 20 * c .n)
 
 -- "A chain handed in as a record passes checks 2, 4, 5 again, with places as in its packed file": of a call that answers N and P, 4 is at the lowest byte offset of a
 -- word out of its range, and 5 at the first row's
@@ -269,6 +263,10 @@ fine-is c q w = Iff·trans (Iff·symm (sound-is c q w)) (
   λ h. (count-silent (c .n) .1 (h .0), (range-silent c q w .1 (h .1 .ranges), (order-silent c q .1 (h .1 .order), tt))),
 )
 
+-- and so where they stand in its packed file
+pub good-is : (c : Chain) → Sound c ↔ GoodRecord c
+good-is c = fine-is c 20 (20 + 20 * c .n)
+
 -- where the tables of a packed file stand, 4 says the lowest word out of its range
 packed-finds : (c : Chain) → Finds (rangeCheck c 20 (20 + 20 * c .n)) 4 (OutAt c 20 (20 + 20 * c .n))
 packed-finds c = rw (parts-are c 20 w) (finds-as (λ L. (out L, back L)) (finds-then 4 four first-places (period-finds c 20 w) (finds-then 4 four later-places (queues-finds c 20 w) (nodes-finds c 20 w))))
@@ -318,7 +316,7 @@ module _ (c : Chain) where
       w = 20 + 20 * c .n
 
   -- and a call that answers these numbers, with their places, exactly where such a call does
-  checked-as : {N P M Q : ℕ} → ((K L : ℕ) → K ≢ 0 → K < 8 → ((M ≡ K) × (Q ≡ L)) ↔ ((N ≡ K) × (P ≡ L))) → RecordChecked c N P → RecordChecked c M Q
+  pub checked-as : {N P M Q : ℕ} → ((K L : ℕ) → K ≢ 0 → K < 8 → ((M ≡ K) × (Q ≡ L)) ↔ ((N ≡ K) × (P ≡ L))) → RecordChecked c N P → RecordChecked c M Q
   checked-as h k = record {
     two = λ L. Iff·trans (h 2 L (λ e. omega arith) (omega arith)) (k .two L);
     four = λ L. Iff·trans (h 4 L (λ e. omega arith) (omega arith)) (k .four L);
@@ -326,7 +324,7 @@ module _ (c : Chain) where
   }
 
   -- and such a call says none of the three exactly where the count is right and all is fine
-  pub record-passes : {N P : ℕ} → RecordChecked c N P → ((N ≢ 2) × ((N ≢ 4) × (N ≢ 5))) ↔ (RightCount (c .n) × Fine c 20 (20 + 20 * c .n))
+  pub record-passes : {N P : ℕ} → RecordChecked c N P → ((N ≢ 2) × ((N ≢ 4) × (N ≢ 5))) ↔ GoodRecord c
   record-passes {N} {P} k = (λ h. (right (h .0), record { ranges = in-range (right (h .0)) (h .1 .0); order = in-order h }), back)
     where
       w : ℕ
@@ -357,40 +355,12 @@ module _ (c : Chain) where
   unfolding analyseAnswer sized
   analyse-record = checked-by (analyseRefusal c) (analyse-2 c) (analyse-4 c) (analyse-5 c)
 
-  -- a chain that is checked for a run
-  pub checked-record : RecordChecked c (runAnswer c .number) (runAnswer c .place)
-  checked-record = checked-as (λ K L some low. checked-begins c K L some low) analyse-record
-
-  -- a fresh start
-  pub fresh-record : RecordChecked c (freshAnswer c .number) (freshAnswer c .place)
-  fresh-record = checked-as (λ K L some low. fresh-begins c K L some low) analyse-record
-
-  -- "Manual firing, runs and deadline questions check the analysis first, then their own numbers"
-  pub fire-record : (s : Run) (i : ℕ) → RecordChecked c (fireAnswer c s i .number) (fireAnswer c s i .place)
-  fire-record s i = checked-as (λ K L some low. fire-begins c K L some low s i) analyse-record
-
-  -- an immediate run
-  pub immediate-record : (k : ℕ) → RecordChecked c (immediateAnswer c k .number) (immediateAnswer c k .place)
-  immediate-record k = checked-as (λ K L some low. immediate-begins c K L some (omega arith) k) checked-record
-
-  -- a deadline question
-  pub deadline-record : (i k : ℕ) → RecordChecked c (deadlineAnswer c i k .number) (deadlineAnswer c i k .place)
-  deadline-record i k = checked-as (λ K L some low. deadline-begins c K L some (omega arith) i k) checked-record
-
-  -- a tick
-  pub tick-record : (s : Run) → RecordChecked c (tickAnswer c s .number) (tickAnswer c s .place)
-  tick-record s = checked-as (λ K L some low. tick-begins c K L some (omega arith) s) checked-record
-
-  -- a deadline run
-  pub deadline-run-record : (T : ℕ) → RecordChecked c (deadlineRunAnswer c T .number) (deadlineRunAnswer c T .place)
-  deadline-run-record T = checked-as (λ K L some low. deadline-run-begins c K L some (omega arith) T) checked-record
-
   -- "The writer checks 2, 4, 5, 10"
   pub write-record : (o p : List ℕ) (a : LengthAnswer) → Output (writeRefusal c (length o)) (packed c) o p a → RecordChecked c (a .number) (a .place)
   write-record o p a v = rw (v .answer) (checked-by (writeRefusal c (length o)) (write-2 c (length o)) (write-4 c (length o)) (write-5 c (length o)))
 
   -- 10, "lent output shorter than what would be written", place "bytes needed"
   pub write-room : (o p : List ℕ) (a : LengthAnswer) → Output (writeRefusal c (length o)) (packed c) o p a
-      → (L : ℕ) → ((a .number ≡ 10) × (a .place ≡ L)) ↔ ((RightCount (c .n) × Fine c 20 (20 + 20 * c .n)) × ((length o < 20 + 24 * c .n) × (L ≡ 20 + 24 * c .n)))
+      → (L : ℕ) → ((a .number ≡ 10) × (a .place ≡ L)) ↔ (GoodRecord c × ((length o < 20 + 24 * c .n) × (L ≡ 20 + 24 * c .n)))
   write-room o p a v L = rw (v .answer) (Iff·trans (said (writeRefusal c (length o)) 10 L)
-      (Iff·trans (write-10 c (length o) L) (Iff·and (Iff·trans (sound-is c 20 (20 + 20 * c .n)) (fine-is c 20 (20 + 20 * c .n))) Iff·rfl)))
+      (Iff·trans (write-10 c (length o) L) (Iff·and (Iff·trans (sound-is c 20 (20 + 20 * c .n)) (good-is c)) Iff·rfl)))

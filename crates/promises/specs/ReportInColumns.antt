@@ -15,9 +15,11 @@
 --   report-lent              and where neither is, the report is what the lent bytes get, or 10
 --   report-columns           so what an accepted call leaves at their front is the report
 --   refusal-lent             the call that writes the line of a refusal gives them that line, or 10
+--   headed-when              when a text begins with the first line
 use mathlib.Core.Path.{_≡_, refl, sym, ap, subst, _∙_}
-use mathlib.Core.Logic.{_≢_, by-cases}
-use mathlib.Core.List.{List, _++_}
+use mathlib.Core.Bool.{true}
+use mathlib.Core.Logic.{_↔_, _≢_, by-cases}
+use mathlib.Core.List.{List, [], _∷_, _++_}
 use Prim.Native.Nat.{ℕ, _+_, _-_, _≤_, _<_}
 use native.Mathlib.Decide.{ℕ-discrete, decLt}
 use native.Mathlib.Omega.{arith}
@@ -29,7 +31,7 @@ use Rattle.ardenquill.specs.Chains.{Silent, refused}
 use Rattle.ardenquill.specs.Files.{readAnswer, chainOf, readRefusal, roomCheck, Output, output-fine}
 use Rattle.ardenquill.specs.Analyses.{analysisOf, analyseAnswer, sized}
 use Rattle.ardenquill.specs.Records.{Refusal, Chain, Analysis, LengthAnswer}
-use Rattle.ardenquill.specs.Reports.{reportText, reportRefusal, refusalText, IsReport, IsRefusal, report-is, refusal-is, report-as-read, report-as-analysed, report-as-room}
+use Rattle.ardenquill.specs.Reports.{reportText, reportRefusal, refusalText, IsReport, IsRefusal, report-is, refusal-is, report-as-read, report-as-analysed, report-as-room, headed, headed-true}
 use Rattle.promises.specs.Replay.{accepts-is}
 use Rattle.promises.specs.Laws.{report-is as answered-analysis}
 
@@ -141,3 +143,10 @@ module _ (f o p : List ℕ) (r : LengthAnswer) (w : Output (reportRefusal f (len
 -- "A refusal prints only the line `refused,number,place`": what the call that writes that line answers and leaves
 pub refusal-lent : (N L : ℕ) (o p : List ℕ) (r : LengthAnswer) → Output (roomCheck (length (refusalText N L)) (length o)) (refusalText N L) o p r → LentOne (IsRefusal N L) o p r
 refusal-lent N L o p r w = record { text = refusalText N L; is = refusal-is N L _ .1 refl; lent = lent w }
+
+-- "The first line is always `queue,x,y,minimum,capacity,margin`": a text is headed exactly where its first 34 bytes are that line and its line feed
+pub headed-when : (t : List ℕ)
+    → (headed t ≡ true) ↔ (take 34 t
+    ≡ 113 ∷ 117 ∷ 101 ∷ 117 ∷ 101 ∷ 44 ∷ 120 ∷ 44 ∷ 121 ∷ 44 ∷ 109 ∷ 105 ∷ 110 ∷ 105 ∷ 109 ∷ 117 ∷ 109 ∷ 44
+    ∷ 99 ∷ 97 ∷ 112 ∷ 97 ∷ 99 ∷ 105 ∷ 116 ∷ 121 ∷ 44 ∷ 109 ∷ 97 ∷ 114 ∷ 103 ∷ 105 ∷ 110 ∷ 10 ∷ [])
+headed-when = headed-true

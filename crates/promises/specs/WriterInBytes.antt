@@ -3,7 +3,7 @@
 --   Word f at v, Header f n y q w t, Tables f q w c
 --                            a word of f, its header's words, its tables (FileInBytes)
 --   WrittenAs c o p          p is the packed file of c, byte by byte, and past it as o was
---   RightCount n, Fine c q w n is 1 to 16; no word of c is out of its range, and no c above its τ (RecordInNumbers)
+--   GoodRecord c             n is 1 to 16, no word of c is out of its range, and no c above its τ (RecordInNumbers)
 --   write-when               when a chain is not refused (and when it is, and with which number and place: write-record, write-room, RecordInNumbers)
 --   write-exactly            and then it is written so
 use mathlib.Core.Path.{_≡_, sym, ap, _∙_}
@@ -18,7 +18,7 @@ use Rattle.ardenquill.specs.Chains.{Silent, rowOf, workOf, none, slot-used, tri
 use Rattle.ardenquill.specs.Files.{bytesOf, bytes-length, word-at, readAnswer, packedLength, words, packed, packed-length, writeRefusal, write-accepts, write-fine, Output, output-fine, read-of-write}
 use Rattle.ardenquill.specs.Records.{Queue, Chain, LengthAnswer}
 use Rattle.promises.specs.Laws.{output-silent}
-use Rattle.promises.specs.RecordInNumbers.{RightCount, Fine, fine-is}
+use Rattle.promises.specs.RecordInNumbers.{GoodRecord, good-is}
 use Rattle.promises.specs.FileInBytes.{Word, Header, RowWords, Tables, ReadsAs, word-out, word-in, queues-at, nodes-at, read-exactly}
 
 -- "The packed file has the queue table at 20, the node table at 20+20n and length 20+24n; the writer writes only that": p is what it makes of the lent bytes o
@@ -96,8 +96,8 @@ module _ (c : Chain) (s : Sound c) where
 
 -- "The writer checks 2, 4, 5, 10": a chain is written exactly when no word of it is refused and there is room
 pub write-when : (c : Chain) (o p : List ℕ) (a : LengthAnswer) → Output (writeRefusal c (length o)) (packed c) o p a
-    → (a .number ≡ 0) ↔ ((RightCount (c .n) × Fine c 20 (20 + 20 * c .n)) × (20 + 24 * c .n ≤ length o))
-write-when c o p a v = Iff·trans (output-silent v) (Iff·trans (write-accepts c (length o)) (Iff·and (fine-is c 20 (20 + 20 * c .n)) Iff·rfl))
+    → (a .number ≡ 0) ↔ (GoodRecord c × (20 + 24 * c .n ≤ length o))
+write-when c o p a v = Iff·trans (output-silent v) (Iff·trans (write-accepts c (length o)) (Iff·and (good-is c) Iff·rfl))
 
 -- "the writer writes only that": a chain c that is written into lent bytes o, which become p, and not refused
 pub write-exactly : (c : Chain) (o p : List ℕ) (a : LengthAnswer) → Output (writeRefusal c (length o)) (packed c) o p a → a .number ≡ 0
