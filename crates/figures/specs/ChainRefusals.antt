@@ -272,6 +272,8 @@ justAccepted =
     ∷ (write (one 5 1 1 1 0 0 6) [], 10 ∷ 44 ∷ 0 ∷ [])
     -- y 65,537 × 65,535 = 4,294,967,295
     ∷ (analyse (one 65537 1 65535 65535 0 0 1), sizesAre 1 (1 ∷ 4294967295 ∷ 65535 ∷ 65535 ∷ 65535 ∷ 0 ∷ 0 ∷ []) 1 4294967295)
+    -- a chain that is checked for a run and not refused is answered its analysis: B at the minimum
+    ∷ (checkedForRun (one 10 4 7 3 10 0 2), sizesAre 1 (4 ∷ 30 ∷ 10 ∷ 4 ∷ 10 ∷ 0 ∷ 0 ∷ []) 8 30)
     -- 8 is not said of an analysis, of a fresh start, of a manual firing
     ∷ (analyse (one 10 4 7 3 9 0 2), sizesAre 1 (4 ∷ 30 ∷ 10 ∷ 4 ∷ 9 ∷ 1 ∷ 1 ∷ []) 8 30)
     ∷ (fresh (one 10 4 7 3 9 0 2), stateIs (run 0 [] [] []))

@@ -10,10 +10,12 @@
 --   counting, holding, runOutcomes, asking
 --                            9; 11 and 12 of a manual firing; 13 of a tick; 11 and 13 of a deadline question
 --   byState                  the calls that are handed a state refuse it 17, before 9 and 11
+--   past t a b x d           a state of a chain of one queue with slots past n that are not zero
 --   badStates, goodStates    what is refused 17, and what is just not
 --   runRefusals              the questions with their answers
 use mathlib.Core.List.{List, [], _∷_, _++_, flatMap}
 use Prim.Native.Nat.{ℕ}
+use lib.ListN.{replicate}
 use Rattle.ardenquill.specs.Records.{Queue, Chain, Run}
 use Rattle.figures.specs.Questions.{fire, immediate, immediateRefusal, deadline, tick, tickForC, deadlineRun, deadlineRunForC, stateNumbers}
 use Rattle.figures.specs.Literals.{Row, row, chain, feed, permeate, run, refused, stateIs, keeps, tickKeeps, cleanAt, overflowedAt, undatedAt}
@@ -167,6 +169,10 @@ badStates =
     ∷ (plain 0, (run 0 (4294967295 ∷ 4294967295 ∷ []) (1 ∷ []) [], 0))
     ∷ []
 
+-- a state of a chain of one queue whose slots past n are all as large as they may be
+abbrev pub past : ℕ → ℕ → ℕ → ℕ → ℕ → Run
+past t a b x d = run t (a ∷ b ∷ replicate 15 4294967295) (x ∷ replicate 15 4294967295) (d ∷ replicate 15 4294967295)
+
 -- and what is just not refused
 abbrev pub goodStates : List Row
 goodStates =
@@ -174,9 +180,10 @@ goodStates =
     (fire feed (run 3 (1 ∷ []) (4 ∷ []) (1 ∷ [])) 0, stateIs (run 3 (2 ∷ []) (8 ∷ []) (1 ∷ [])))
     ∷ (tick feed (run 1 (4 ∷ 3 ∷ []) (7 ∷ []) (1 ∷ [])), cleanAt (run 2 (4 ∷ 4 ∷ []) (4 ∷ []) []))
     ∷ (tick feed (run 1 (4 ∷ 2 ∷ []) (10 ∷ []) []), cleanAt (run 2 (4 ∷ 2 ∷ []) (10 ∷ []) (1 ∷ [])))
-    -- "the slots past n are neither read nor changed"
-    ∷ (fire feed (run 0 (0 ∷ 0 ∷ 9 ∷ []) (0 ∷ 9 ∷ []) (0 ∷ 9 ∷ [])) 0, stateIs (run 0 (1 ∷ 0 ∷ 9 ∷ []) (4 ∷ 9 ∷ []) (0 ∷ 9 ∷ [])))
-    ∷ (tick feed (run 0 (0 ∷ 0 ∷ 4294967295 ∷ []) (0 ∷ 9 ∷ []) (0 ∷ 9 ∷ [])), cleanAt (run 1 (1 ∷ 0 ∷ 4294967295 ∷ []) (4 ∷ 9 ∷ []) (0 ∷ 9 ∷ [])))
+    -- "the slots past n are neither read nor changed": a firing of the source, one of the sink, which has no queue behind it, and a tick that ends the sink's
+    ∷ (fire feed (past 0 0 0 0 0) 0, stateIs (past 0 1 0 4 0))
+    ∷ (fire feed (past 0 4 3 7 1) 1, stateIs (past 0 4 4 4 1))
+    ∷ (tick feed (past 1 4 3 7 1), cleanAt (past 2 4 4 4 0))
     ∷ []
 
 -- all of these

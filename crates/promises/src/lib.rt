@@ -1,16 +1,18 @@
-// The customer's demands as theorems, in specs/, and for each call that C has, and each that Rattle alone has, a function that
-// makes it: every argument is handed on as it is, and the proof knows of the call its contract alone. So a call whose code and
-// contract both fix an argument, or whose contract names another definition, is refused here.
+// The customer's demands as theorems, in specs/, and for each call that C has a function that makes it (`names` has those that
+// Rattle has): every argument is handed on as it is, and the proof knows of the call its contract alone. So a call whose code
+// and contract both fix an argument, or whose contract names another definition, is refused here.
+pub mod names;
+
 ghost use mathlib.Core.Path.{_≡_};
 ghost use lib.ListN.{length};
-ghost use Rattle.ardenquill.specs.Files.{readAnswer, roomCheck, Output};
+ghost use Rattle.ardenquill.specs.Files.{readAnswer, Output};
 ghost use Rattle.ardenquill.specs.Chains.{factoryAnswer};
-ghost use Rattle.ardenquill.specs.Analyses.{analyseAnswer, runAnswer};
-ghost use Rattle.ardenquill.specs.Reports.{headed, refusalText, reportText, reportRefusal};
+ghost use Rattle.ardenquill.specs.Analyses.{analyseAnswer};
+ghost use Rattle.ardenquill.specs.Reports.{reportText, reportRefusal};
 ghost use Rattle.ardenquill.specs.Runs.{fireAnswer};
 ghost use Rattle.ardenquill.specs.Immediate.{immediateAnswer};
 ghost use Rattle.ardenquill.specs.Deadlines.{deadlineAnswer};
-ghost use Rattle.ardenquill.specs.Ticks.{tickAnswer, deadlineRunAnswer};
+ghost use Rattle.ardenquill.specs.Ticks.{tickAnswer};
 ghost use Rattle.ardenquill.specs.Flat.{flat};
 ghost use Rattle.promises.specs.Ran.{Ran};
 ghost use Rattle.promises.specs.ReadBack.{ReadBack};
@@ -23,7 +25,6 @@ use ardenquill::LengthAnswer;
 use ardenquill::OutcomeRun;
 use ardenquill::Run;
 use ardenquill::RunAnswer;
-use ardenquill::TickAnswer;
 
 // A fresh start of a chain, and then a manual firing of each node in turn; the first refusal ends it, with the state as it
 // then was.
@@ -129,39 +130,4 @@ pub fn lent(chain: Chain, run: Run) -> OutcomeRun
         at: answer.at,
         run: state,
     }
-}
-
-// What a chain that is to run is answered.
-pub fn checked(chain: Chain) -> AnalysisAnswer
-    ensures { λ r. ⌜ r ≡ runAnswer chain ⌝ }
-{
-    ardenquill::checked_for_run(chain)
-}
-
-// One tick of a state by value.
-pub fn ticked(chain: Chain, run: Run) -> TickAnswer
-    ensures { λ r. ⌜ r ≡ tickAnswer chain run ⌝ }
-{
-    ardenquill::tick(chain, run)
-}
-
-// A deadline run with its outcome.
-pub fn ended(chain: Chain, ticks: u32) -> TickAnswer
-    ensures { λ r. ⌜ r ≡ deadlineRunAnswer chain ticks ⌝ }
-{
-    ardenquill::deadline_run(chain, ticks)
-}
-
-// The line of a refusal at the front of the lent bytes, or 10.
-pub fn refused(number: u32, place: u32, out: &mut [u8]) -> LengthAnswer
-    ensures { λ r. ⌜ Output (roomCheck (length (refusalText number place)) (length (now (out .entry)))) (refusalText number place) (now (out .entry)) (now (out .exit)) r ⌝ }
-{
-    ardenquill::refusal_line(number, place, out)
-}
-
-// Whether a text begins with the report's first line.
-pub fn begins(text: &[u8]) -> bool
-    ensures { λ r. ⌜ r ≡ headed (now (text .entry)) ⌝ }
-{
-    ardenquill::headed(text)
 }
