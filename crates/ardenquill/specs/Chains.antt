@@ -1,7 +1,7 @@
 -- What the public calls promise of chains, refusals and factory chains, handed on from the crates `words` and `chain`.
 unfoldable pub use Rattle.words.specs.Flat.{flat}
 unfoldable pub use Rattle.words.specs.Table.{tab}
-pub use Rattle.words.specs.Table.{slots, length-tab, slot-free, tab-last, slot-used, is-slots}
+pub use Rattle.words.specs.Table.{slots, length-tab, slot-free, tab-at, tab-last, slot-used, is-slots}
 pub use Rattle.words.specs.Rows.{none, row}
 pub use Rattle.chain.specs.Tests.{outside, Out, In, outside-true, outside-false, sum-iff}
 pub use Rattle.chain.specs.Refusals.{refused, fine, test, orElse, Silent, First, first-is, first-fine, first-silent, Only, only-test, test-alone, numbered-length, numbered-own, absent, or-says, or-silents, first-append, all-silent, test-exact, test-silent, or-left}

@@ -1,4 +1,3 @@
 pub mod Digits
 pub mod Signed
-pub mod Written
 pub mod Figures

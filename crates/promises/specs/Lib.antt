@@ -17,6 +17,9 @@ pub mod TickInNumbers
 pub mod FileInBytes
 pub mod FilesAlike
 pub mod WriterInBytes
+pub mod Written
+pub mod Cut
+pub mod Columns
 pub mod ReportInColumns
 pub mod Demand3
 pub mod Beyond

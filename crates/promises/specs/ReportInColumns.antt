@@ -5,7 +5,7 @@
 --                            what analyse answers of the chain that read answers of f
 --   IsReport a t, IsRefusal N L t
 --                            the bytes t are the report of the analysis a, and the line of the refusal N at L: line by line, each ended by one line feed, and column
---                            by column, the numbers read back (Reports)
+--                            by column, the numbers read back (Columns)
 --   Lent t o p r             t stands at the front of the lent bytes, or 10 is said where they are too short; and no other byte changes
 --   LentOne Is o p r         so it is of a text of which Is holds
 --   report-only, refusal-only
@@ -31,7 +31,8 @@ use Rattle.ardenquill.specs.Chains.{Silent, refused}
 use Rattle.ardenquill.specs.Files.{readAnswer, chainOf, readRefusal, roomCheck, Output, output-fine}
 use Rattle.ardenquill.specs.Analyses.{analysisOf, analyseAnswer, sized}
 use Rattle.ardenquill.specs.Records.{Refusal, Chain, Analysis, LengthAnswer}
-use Rattle.ardenquill.specs.Reports.{reportText, reportRefusal, refusalText, IsReport, IsRefusal, report-is, refusal-is, report-as-read, report-as-analysed, report-as-room, headed, headed-true}
+use Rattle.ardenquill.specs.Reports.{reportText, reportRefusal, refusalText, report-as-read, report-as-analysed, report-as-room, headed, headed-true}
+use Rattle.promises.specs.Columns.{IsReport, IsRefusal, report-is, refusal-is}
 use Rattle.promises.specs.Replay.{accepts-is}
 use Rattle.promises.specs.Laws.{report-is as answered-analysis}
 

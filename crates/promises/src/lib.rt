@@ -5,7 +5,7 @@ pub mod names;
 
 ghost use mathlib.Core.Path.{_≡_};
 ghost use lib.ListN.{length};
-ghost use Rattle.ardenquill.specs.Files.{readAnswer, Output};
+ghost use Rattle.ardenquill.specs.Files.{readAnswer, packed, writeRefusal, Output};
 ghost use Rattle.ardenquill.specs.Chains.{factoryAnswer};
 ghost use Rattle.ardenquill.specs.Analyses.{analyseAnswer};
 ghost use Rattle.ardenquill.specs.Reports.{reportText, reportRefusal};
@@ -72,6 +72,13 @@ pub fn loaded(file: &[u8]) -> ChainAnswer
     ensures { λ r. ⌜ r ≡ readAnswer (now (file .entry)) ⌝ }
 {
     ardenquill::ardenquill_read(file)
+}
+
+// The packed file of a chain at the front of the lent bytes, or its refusal.
+pub fn saved(chain: Chain, out: &mut [u8]) -> LengthAnswer
+    ensures { λ r. ⌜ Output (writeRefusal chain (length (now (out .entry)))) (packed chain) (now (out .entry)) (now (out .exit)) r ⌝ }
+{
+    ardenquill::ardenquill_write(chain, out)
 }
 
 // The factory chain of a number, or 14.

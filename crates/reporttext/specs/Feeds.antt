@@ -18,7 +18,7 @@ use Rattle.decimal.specs.Signed.{integer}
 use Rattle.sizing.specs.Sizes.{noSize}
 use Rattle.sizing.specs.declared.QueueSize.{QueueSize}
 use Rattle.sizing.specs.declared.Analysis.{Analysis}
-use Rattle.reporttext.specs.Cut.{occurrences, Without, occurrences-append, without-append, without-decimal, without-integer}
+use Rattle.reporttext.specs.Occurrences.{occurrences, Without, occurrences-append, without-append, without-decimal, without-integer}
 use Rattle.reporttext.specs.Text.{heading, headingLength, numbers, line, lines, busyWord, busyLine, textOf}
 use Rattle.reporttext.specs.Refused.{refusalWord, refusalText}
 

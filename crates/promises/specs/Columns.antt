@@ -1,4 +1,7 @@
 -- A report and the line of a refusal, read back line by line and column by column (01, Report program), said without the definitions of their texts.
+--   cut b t                 the pieces of t between its bytes b (Cut)
+--   Writes s n, WritesSigned s z
+--                           the bytes s write the number n, and the signed number z (Written)
 --   Column                  what a column has: the bytes of a word, a number, or a signed number
 --   Reads s c               the bytes s are that
 --   IsLine cs s             s, cut at its commas (44), has these columns and no other
@@ -17,18 +20,12 @@ use native.Mathlib.Omega.{arith}
 use lib.ListN.{length, getD, length-append, List·getD-append}
 use lib.Seq.{ext-getD, getD-at, getD-append-add}
 use lib.IntN.{ℤ}
-use Rattle.words.specs.Flat.{flat}
-use Rattle.words.specs.Table.{tab, tab-at, tab-last, length-tab}
-use Rattle.decimal.specs.Digits.{decimal, column}
-use Rattle.decimal.specs.Signed.{integer}
-use Rattle.decimal.specs.Written.{Writes, WritesSigned, writes-same, signed-same, writes-decimal, signed-integer}
-use Rattle.sizing.specs.Sizes.{noSize}
-use Rattle.sizing.specs.declared.QueueSize.{QueueSize}
-use Rattle.sizing.specs.declared.Analysis.{Analysis}
-use Rattle.reporttext.specs.Cut.{occurrences, Without, without-decimal, without-integer, cut, cut-one, cut-more, cut-same}
-use Rattle.reporttext.specs.Text.{numbers, line, lines, busyLine, textOf}
-use Rattle.reporttext.specs.Refused.{refusalText}
-use Rattle.reporttext.specs.Feeds.{OneLine, heading-one, queue-one, busy-one, refusal-one}
+use Rattle.ardenquill.specs.Chains.{flat, tab, tab-at, tab-last, length-tab}
+use Rattle.ardenquill.specs.Reports.{decimal, column, integer, occurrences, Without, without-decimal, without-integer, numbers, line, lines, busyLine, textOf, refusalText, OneLine, heading-one, queue-one, busy-one, refusal-one}
+use Rattle.ardenquill.specs.Records.{QueueSize, Analysis}
+use Rattle.promises.specs.Zeros.{zeroLine}
+use Rattle.promises.specs.Written.{Writes, WritesSigned, writes-same, signed-same, writes-decimal, signed-integer}
+use Rattle.promises.specs.Cut.{cut, cut-one, cut-more, cut-same}
 
 -- what a column has
 pub data Column : Type 0 where
@@ -65,7 +62,7 @@ pub record IsReport (a : Analysis) (t : List ℕ) : Type 0 where
   pub first : lineAt t 0
       ≡ 113 ∷ 117 ∷ 101 ∷ 117 ∷ 101 ∷ 44 ∷ 120 ∷ 44 ∷ 121 ∷ 44 ∷ 109 ∷ 105 ∷ 110 ∷ 105 ∷ 109 ∷ 117 ∷ 109 ∷ 44
       ∷ 99 ∷ 97 ∷ 112 ∷ 97 ∷ 99 ∷ 105 ∷ 116 ∷ 121 ∷ 44 ∷ 109 ∷ 97 ∷ 114 ∷ 103 ∷ 105 ∷ 110 ∷ []
-  pub queues : (i : ℕ) → i < a .n → IsLine (queueColumns i (getD (a .queues) i noSize)) (lineAt t (suc i))
+  pub queues : (i : ℕ) → i < a .n → IsLine (queueColumns i (getD (a .queues) i zeroLine)) (lineAt t (suc i))
   pub last : IsLine (busyColumns a) (lineAt t (suc (a .n)))
   pub ended : lineAt t (suc (suc (a .n))) ≡ []
 
@@ -197,8 +194,8 @@ module _ (n : ℕ) (g : ℕ → List ℕ) (b : List ℕ) where
 
 module _ (a : Analysis) where
   -- queue i's line is one
-  queue-at : (i : ℕ) → OneLine (line i (getD (a .queues) i noSize))
-  queue-at i = queue-one i (getD (a .queues) i noSize)
+  queue-at : (i : ℕ) → OneLine (line i (getD (a .queues) i zeroLine))
+  queue-at i = queue-one i (getD (a .queues) i zeroLine)
 
   -- all pieces of a report
   cut-report : cut 10 (textOf a) ≡ heading-one .body ∷ (tab (a .n) (λ i. queue-at i .body) ++ (busy-one a .body ∷ [] ∷ []))
@@ -214,7 +211,7 @@ module _ (a : Analysis) where
   report-text = record {
     pieces = ap length cut-report ∙ pieces-length (a .n) _ _;
     first = at 0;
-    queues = λ i l. rw (at (suc i) ∙ piece-table (a .n) _ _ i l) (queue-line i (getD (a .queues) i noSize));
+    queues = λ i l. rw (at (suc i) ∙ piece-table (a .n) _ _ i l) (queue-line i (getD (a .queues) i zeroLine));
     last = rw (at (suc (a .n)) ∙ piece-last (a .n) _ _) (busy-line a);
     ended = at (suc (suc (a .n))) ∙ piece-end (a .n) _ _;
   }

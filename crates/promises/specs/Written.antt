@@ -12,8 +12,7 @@ use Prim.Native.Nat.{ℕ, suc, _+_, _*_, _/_, _%_, _<_}
 use native.Mathlib.Nat.{mod-eq-of-lt}
 use native.Mathlib.Omega.{arith}
 use lib.IntN.{ℤ, pos, negsuc}
-use Rattle.decimal.specs.Digits.{decimal, by-digits}
-use Rattle.decimal.specs.Signed.{integer}
+use Rattle.ardenquill.specs.Reports.{decimal, by-digits, integer}
 
 -- "decimal text": '0' is 48, and a digit behind a text makes its number ten times as much, and itself more
 pub data Writes : List ℕ → ℕ → Type 0 where
