@@ -26,6 +26,3 @@ pub mod Beyond
 pub mod HandedOut
 pub mod StatesInNumbers
 pub mod Mixed
-pub mod Replayed
-pub mod Ran
-pub mod ReadBack

@@ -1,14 +1,14 @@
--- `promises::replay` meets its contract: firing what is left from place i on gives the whole answer.
+-- `callers::replay` meets its contract: firing what is left from place i on gives the whole answer.
 use mathlib.Core.Path.{_≡_, sym, _∙_}
 use Prim.Native.Nat.{_-_}
 use native.Mathlib.Omega.{arith}
 use borrow.Author.Needs.{needs}
 use lib.ListN.{length, drop}
 use Rattle.promises.specs.Replay.{replayFrom, replayAnswer, stopped}
-use Rattle.promises.specs.Replayed.{replayed}
-use Rattle.promises.proofs.Steps.{replay-start, replay-next, replay-end}
-use Rattle.promises.proofs.replay.Statement.{statement}
-use Rattle.promises.proofs.replay.Tie as tie
+use Rattle.callers.specs.Replayed.{replayed}
+use Rattle.callers.proofs.Steps.{replay-start, replay-next, replay-end}
+use Rattle.callers.proofs.replay.Statement.{statement}
+use Rattle.callers.proofs.replay.Tie as tie
 
 abbrev Inv-loop : tie.InvT-loop
 Inv-loop chain nodes answer₀ i₀ answer i = replayFrom chain answer (drop i nodes) ≡ replayAnswer chain nodes

@@ -1,4 +1,4 @@
--- `promises::lent` meets its contract: the chain and the state, each in a local, are lent to `ardenquill_tick`, and the state comes back as that call's contract says. A walk of its MIR,
+-- `callers::lent` meets its contract: the chain and the state, each in a local, are lent to `ardenquill_tick`, and the state comes back as that call's contract says. A walk of its MIR,
 -- by hand, since the prover's own does not cover a reference to a record; `Loans` has what lends a local and takes it back. All that the proof knows of the call is that it meets its contract.
 -- The machine values stay shut (`VK`, `VR`, `VS`): no array in them is ever looked into. That they have their MIR types follows from what is owned, by the types' `lawful`.
 -- Assumes nothing.
@@ -52,11 +52,11 @@ use Rattle.ardenquill.proofs.ardenquill_tick as tick
 use Rattle.ardenquill.proofs.ardenquill_tick.Symbol as tick-def
 use Rattle.ardenquill.proofs.ardenquill_tick.Symbol.{name as #tick}
 use Rattle.ardenquill.proofs.ardenquill_tick.Met as tick-thm
-use Rattle.promises.proofs.Loans.{points, lends-shr, shr-back, lends-mut, mut-back}
-use Rattle.promises.proofs.lent.Key.{name as #lent}
-use Rattle.promises.proofs.lent as lent
-use Rattle.promises.proofs.lent.Statement as stated
-use Rattle.promises.proofs.lent.Code as code
+use Rattle.callers.proofs.Loans.{points, lends-shr, shr-back, lends-mut, mut-back}
+use Rattle.callers.proofs.lent.Key.{name as #lent}
+use Rattle.callers.proofs.lent as lent
+use Rattle.callers.proofs.lent.Statement as stated
+use Rattle.callers.proofs.lent.Code as code
 
 abbrev R : RattleType
 R = T.the-row

@@ -1,8 +1,8 @@
--- `promises::run` meets its contract: what the call answers is enough.
+-- `callers::run` meets its contract: what the call answers is enough.
 use borrow.Author.Needs.{needs}
-use Rattle.promises.specs.Ran.{ran-so}
-use Rattle.promises.proofs.run.Statement.{statement}
-use Rattle.promises.proofs.run.Tie as tie
+use Rattle.callers.specs.Ran.{ran-so}
+use Rattle.callers.proofs.run.Statement.{statement}
+use Rattle.callers.proofs.run.Tie as tie
 
 ardenquill-deadline-run-requires : tie.Need-ardenquill-deadline-run-requires
 ardenquill-deadline-run-requires c κs = search needs

@@ -1,12 +1,12 @@
--- `promises::read_back` meets its contract: what the writer leaves, the reader gives back.
+-- `callers::read_back` meets its contract: what the writer leaves, the reader gives back.
 use mathlib.Core.Path.{sym}
 use native.Mathlib.Omega.{arith}
 use borrow.Author.Needs.{needs}
 use lib.Seq.{length-take-le}
 use Rattle.ardenquill.specs.Files.{output-within}
-use Rattle.promises.specs.ReadBack.{back-refused, back-read}
-use Rattle.promises.proofs.read_back.Statement.{statement}
-use Rattle.promises.proofs.read_back.Tie as tie
+use Rattle.callers.specs.ReadBack.{back-refused, back-read}
+use Rattle.callers.proofs.read_back.Statement.{statement}
+use Rattle.callers.proofs.read_back.Tie as tie
 
 ardenquill-write-requires : tie.Need-ardenquill-write-requires
 ardenquill-write-requires c κs = search needs
