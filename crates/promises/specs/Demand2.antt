@@ -70,9 +70,9 @@ use Rattle.ardenquill.specs.Files.{countOf, queuesAt, nodesAt, readAnswer, pack
 use Rattle.ardenquill.specs.Analyses.{ceil, gcd, gcd-pos-left, residue, residue-000, residue-004, naming, common, nextX, nextY, xOf, yOf, y-multiple, busyIn, runChecks, analysisOf, analyseAnswer, Accepted, capacity-minimum, capacity-written, margin-unwritten, margin-balance}
 use Rattle.ardenquill.specs.Runs as runs
 use Rattle.ardenquill.specs.Runs.{countAt, heldAt, freshRun, freshAnswer, fresh-empty, fresh-state, fired, May, stateCheck, state-silent, Whole, Firing, firing-is, fireAnswer, fire-accepts, fire-accepted, count-fired, count-other, held-output, held-other}
-use Rattle.ardenquill.specs.Histories.{times, counted}
+use Rattle.ardenquill.specs.Histories.{times, counted, after}
 use Rattle.ardenquill.specs.Immediate as immediate
-use Rattle.ardenquill.specs.Immediate.{F, schedule, Follows, rule, immediateAnswer, immediate-accepts, permitted, counts-are-F}
+use Rattle.ardenquill.specs.Immediate.{F, schedule, Next, Follows, rule, immediateAnswer, immediate-accepts, permitted, counts-are-F}
 use Rattle.ardenquill.specs.Deadlines.{earlier, earlier-some, deadline, index, answeredDue, deadlineAnswer, deadline-accepts, deadline-due}
 use Rattle.ardenquill.specs.Ticks as ticks
 use Rattle.ardenquill.specs.Ticks.{kindOf, tickOf, atOf, outcomeOf, tickAnswer, deadlineRunAnswer, ranAs, left, tickRefusal, tick-accepts, tick-9, deadline-run-accepts, TickOnce, once-counts, once-keeps, Spills, Lacks, OneTick, one-overflows, one-lacks, one-cleans, one-stays, one-leaves, TicksTo, answer-one, answer-exactly, Ends, HowMany, total, Waits, Rising, trace, entriesOf, FiredAt, source-entries, entries-when, entries-apart, entries-first, entries-rise}
@@ -288,7 +288,9 @@ module _ (c : Chain) (k : ℕ) (ran : Runs c k) where
 
   -- they are by 01's rule: "No source firing happens while another node may fire, and among those that may, the one nearest the sink goes first"
   pub immediate-rule : NearestFirst c (schedule c k)
-  immediate-rule g l i e = rw (moment c (schedule c k) immediate-fires g _ e) (one-firing c _ (freshRun c) g i l (subst (Follows c (freshRun c)) e (rule (sound c k ran) k)))
+  immediate-rule g l i e =
+      let next : Next c (after c (freshRun c) g) i = one-firing c _ (freshRun c) g i l (subst (Follows c (freshRun c)) e (rule (sound c k ran) k)) in
+      rw (moment c (schedule c k) immediate-fires g _ e) (record { node = next .node; over = over-is c (after c (freshRun c) g) i .0 (next .over); nearest = next .nearest })
 
   -- "a run of k source firings"
   pub immediate-source : times 0 (schedule c k) ≡ k

@@ -17,8 +17,8 @@
 --   Ample c i                queue i's capacity, if written, is not below its reported minimum
 --   Low c s, LowAt c s i     in the state s no queue's consumer is over threshold, so that only the source may fire; queue i's is not
 --   AtOnce c h               no node fires while the node that it feeds is over threshold
---   Next c s i, NearestFirst c h
---                            N_i is the node nearest the sink that may fire in s, or the source where no other may (Immediate); each firing of h is of that node
+--   NearestOver c s i, NearestFirst c h
+--                            N_i is the node nearest the sink that may fire in s, or the source where no other may; each firing of h is of that node
 --   Runs c k                 the immediate run of k source firings is not refused
 --   stopped, goes-on         after a refusal nothing is fired, and without one the next node is
 --   Went c r h               what firings that end with no refusal were
@@ -38,7 +38,7 @@ use Rattle.ardenquill.specs.Chains.{rowOf, workOf}
 use Rattle.ardenquill.specs.Analyses.{start, noSize, analyseAnswer, Accepted, analyse-accepts}
 use Rattle.ardenquill.specs.Runs.{countAt, heldAt, doneAt, freshRun, answered, freshAnswer, fresh-state, fired, fireAnswer, fire-accepted}
 use Rattle.ardenquill.specs.Histories.{AtSome, after, Permitted, EachFiring, each-before}
-use Rattle.ardenquill.specs.Immediate.{Next, immediateAnswer}
+use Rattle.ardenquill.specs.Immediate.{immediateAnswer}
 use Rattle.ardenquill.specs.Records.{Chain, QueueSize, Run, RunAnswer}
 
 -- "a chain it doesn't refuse is accepted"
@@ -124,8 +124,14 @@ abbrev pub AtOnce : Chain → List ℕ → Type 0
 AtOnce c h = (before later : List ℕ) (i : ℕ) → h ≡ before ++ (i ∷ later) → LowAt c (replayAnswer c before .run) i
 
 -- "no source firing happens while another node may fire, and among those that may, the one nearest the sink goes first"
+pub record NearestOver (c : Chain) (s : Run) (i : ℕ) : Type 0 where
+  pub node : i ≤ c .n
+  pub over : (j : ℕ) → i ≡ suc j → τOf c j ≤ heldAt s j
+  pub nearest : (j : ℕ) → i ≤ j → LowAt c s j
+
+-- of each firing
 abbrev pub NearestFirst : Chain → List ℕ → Type 0
-NearestFirst c h = (before later : List ℕ) (i : ℕ) → h ≡ before ++ (i ∷ later) → Next c (replayAnswer c before .run) i
+NearestFirst c h = (before later : List ℕ) (i : ℕ) → h ≡ before ++ (i ∷ later) → NearestOver c (replayAnswer c before .run) i
 
 -- the immediate run of k source firings is not refused
 abbrev pub Runs : Chain → ℕ → Type 0
