@@ -1,5 +1,5 @@
-// Each call by its name for Rattle, from its contract alone. A call for C is made over the one for Rattle, but nothing else says
-// that it is: so each is asked here.
+// Each call by its name for Rattle, from its contract alone, and the fields of an outcome by their names. A call for C is made over
+// the one for Rattle, but nothing else says that it is: so each is asked here.
 ghost use mathlib.Core.Path.{_≡_};
 ghost use lib.ListN.{length};
 ghost use Rattle.ardenquill.specs.Files.{readAnswer, packed, roomCheck, writeRefusal, Output};
@@ -9,12 +9,13 @@ ghost use Rattle.ardenquill.specs.Reports.{headed, refusalText, reportText, rep
 ghost use Rattle.ardenquill.specs.Runs.{freshAnswer, fireAnswer};
 ghost use Rattle.ardenquill.specs.Immediate.{immediateAnswer};
 ghost use Rattle.ardenquill.specs.Deadlines.{deadlineAnswer};
-ghost use Rattle.ardenquill.specs.Ticks.{tickAnswer, deadlineRunAnswer};
+ghost use Rattle.ardenquill.specs.Ticks.{kindOf, tickOf, atOf, tickAnswer, deadlineRunAnswer};
 use ardenquill::AnalysisAnswer;
 use ardenquill::Chain;
 use ardenquill::ChainAnswer;
 use ardenquill::DeadlineAnswer;
 use ardenquill::LengthAnswer;
+use ardenquill::Outcome;
 use ardenquill::Run;
 use ardenquill::RunAnswer;
 use ardenquill::TickAnswer;
@@ -115,4 +116,44 @@ pub fn deadline_run(chain: Chain, ticks: u32) -> TickAnswer
     ensures { λ r. ⌜ r ≡ deadlineRunAnswer chain ticks ⌝ }
 {
     ardenquill::deadline_run(chain, ticks)
+}
+
+// Which of its kinds an outcome is, by their names.
+pub fn kind(outcome: Outcome) -> u32
+    ensures { λ r. ⌜ r ≡ kindOf outcome ⌝ }
+{
+    match outcome {
+        Outcome::Clean => 0,
+        Outcome::Overflowed { .. } => 1,
+        Outcome::NoDeadline { .. } => 2,
+    }
+}
+
+// What an outcome names its tick.
+pub fn tick_named(outcome: Outcome) -> u32
+    ensures { λ r. ⌜ r ≡ tickOf outcome ⌝ }
+{
+    match outcome {
+        Outcome::Clean => 0,
+        Outcome::Overflowed { tick, .. } => tick,
+        Outcome::NoDeadline { tick, .. } => tick,
+    }
+}
+
+// What it names its queue or its node.
+pub fn place_named(outcome: Outcome) -> u32
+    ensures { λ r. ⌜ r ≡ atOf outcome ⌝ }
+{
+    match outcome {
+        Outcome::Clean => 0,
+        Outcome::Overflowed { queue, .. } => queue,
+        Outcome::NoDeadline { node, .. } => node,
+    }
+}
+
+// Bytes that are enough for every report.
+pub fn longest_report() -> usize
+    ensures { λ r. ⌜ r ≡ 1133 ⌝ }
+{
+    ardenquill::LONGEST_REPORT
 }

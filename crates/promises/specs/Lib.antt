@@ -14,6 +14,7 @@ pub mod RatesInNumbers
 pub mod PlacesInNumbers
 pub mod RunsInNumbers
 pub mod TickInNumbers
+pub mod WorkInNumbers
 pub mod FileInBytes
 pub mod FilesAlike
 pub mod WriterInBytes

@@ -16,6 +16,7 @@
 --   report-columns           so what an accepted call leaves at their front is the report
 --   refusal-lent             the call that writes the line of a refusal gives them that line, or 10
 --   headed-when              when a text begins with the first line
+--   report-fits              room that is enough for every report
 use mathlib.Core.Path.{_≡_, refl, sym, ap, subst, _∙_}
 use mathlib.Core.Bool.{true}
 use mathlib.Core.Logic.{_↔_, _≢_, by-cases}
@@ -31,7 +32,7 @@ use Rattle.ardenquill.specs.Chains.{Silent, refused}
 use Rattle.ardenquill.specs.Files.{readAnswer, chainOf, readRefusal, roomCheck, Output, output-fine}
 use Rattle.ardenquill.specs.Analyses.{analysisOf, analyseAnswer, sized}
 use Rattle.ardenquill.specs.Records.{Refusal, Chain, Analysis, LengthAnswer}
-use Rattle.ardenquill.specs.Reports.{reportText, reportRefusal, refusalText, report-as-read, report-as-analysed, report-as-room, headed, headed-true}
+use Rattle.ardenquill.specs.Reports.{reportText, reportRefusal, refusalText, report-as-read, report-as-analysed, report-as-room, headed, headed-true, report-room}
 use Rattle.promises.specs.Columns.{IsReport, IsRefusal, report-is, refusal-is}
 use Rattle.promises.specs.Replay.{accepts-is}
 use Rattle.promises.specs.Laws.{report-is as answered-analysis}
@@ -151,3 +152,10 @@ pub headed-when : (t : List ℕ)
     ≡ 113 ∷ 117 ∷ 101 ∷ 117 ∷ 101 ∷ 44 ∷ 120 ∷ 44 ∷ 121 ∷ 44 ∷ 109 ∷ 105 ∷ 110 ∷ 105 ∷ 109 ∷ 117 ∷ 109 ∷ 44
     ∷ 99 ∷ 97 ∷ 112 ∷ 97 ∷ 99 ∷ 105 ∷ 116 ∷ 121 ∷ 44 ∷ 109 ∷ 97 ∷ 114 ∷ 103 ∷ 105 ∷ 110 ∷ 10 ∷ [])
 headed-when = headed-true
+
+-- 1,133 lent bytes, which is what LONGEST_REPORT says, are enough for every report
+pub report-fits : (f o p : List ℕ) (a : LengthAnswer) → Output (reportRefusal f (length o)) (reportText f) o p a → 1133 ≤ length o → a .number ≢ 10
+report-fits f o p a w l e =
+    let r : Refusal = reportRefusal f (length o) in
+    let said : r .number ≡ 10 = sym (ap (λ (x : LengthAnswer). x .number) (w .answer)) ∙ e in
+    report-room f (length o) (r .place) l (λ k. record { number = said k; place = r .place })

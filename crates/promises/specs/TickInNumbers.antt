@@ -73,14 +73,14 @@ CountsSo c s t j = (Finishes c s t j × (countAt t (suc j) ≡ countAt s (suc j)
 
 -- after the source's step
 module _ {c : Chain} {s u : Run} (o : SourceOnce c s u) where
-  over-out : (j : ℕ) → τOf c j ≤ heldAt u j → OverThen c s j
+  pub over-out : (j : ℕ) → τOf c j ≤ heldAt u j → OverThen c s j
   over-out j h = by-cases (ℕ-discrete j 0)
       (λ z. by-cases (decDvd (c .period) (s .clock))
       (λ d. inr (z, (d, subst (λ (m : ℕ). τOf c 0 ≤ m) (o .fires d .1) (subst (λ (i : ℕ). τOf c i ≤ heldAt u i) z h))))
       (λ n. inl (subst (λ (i : ℕ). τOf c i ≤ heldAt s i) (sym z) (subst (λ (m : ℕ). τOf c 0 ≤ m) (o .rests n .1) (subst (λ (i : ℕ). τOf c i ≤ heldAt u i) z h)))))
       (λ ne. inl (subst (λ (m : ℕ). τOf c j ≤ m) (o .held j ne) h))
 
-  over-in : (j : ℕ) → OverThen c s j → τOf c j ≤ heldAt u j
+  pub over-in : (j : ℕ) → OverThen c s j → τOf c j ≤ heldAt u j
   over-in j = ⊎-elim kept (λ h. subst (λ (i : ℕ). τOf c i ≤ heldAt u i) (sym (h .0)) (subst (λ (m : ℕ). τOf c 0 ≤ m) (sym (o .fires (h .1 .0) .1)) (h .1 .1)))
     where
       kept : τOf c j ≤ heldAt s j → τOf c j ≤ heldAt u j
@@ -110,10 +110,12 @@ module _ (c : Chain) (may : Accepts c × ((j : ℕ) → j < c .n → Ample c j))
       ap (λ (r : Refusal). r .number) (deadline-13 c i k (indexCheck c i k .place) .1 (quiet, f))
 
 -- a number of e's and less than e beside them is such in one way only
-parted : (e N d M b : ℕ) → d < e → b < e → e * N + d ≡ e * M + b → N ≡ M
-parted e N d M b l m h = by-cases (decLt N M)
+pub parted : (e N d M b : ℕ) → d < e → b < e → e * N + d ≡ e * M + b → (N ≡ M) × (d ≡ b)
+parted e N d M b l m h =
+    let same : N ≡ M = by-cases (decLt N M)
     (λ f. absurd (omega (arith, mul-le-mul-left e f)))
-    (λ f. by-cases (decLt M N) (λ g. absurd (omega (arith, mul-le-mul-left e g))) (λ g. omega arith))
+    (λ f. by-cases (decLt M N) (λ g. absurd (omega (arith, mul-le-mul-left e g))) (λ g. omega arith)) in
+    (same, omega (arith, subst (λ (x : ℕ). e * x + d ≡ e * M + b) same h))
 
 module _ (c : Chain) (s : Run) (slots : AllSlots s) (ok : tickAnswer c s .number ≡ 0) where
   -- its chain may run
@@ -230,12 +232,12 @@ module _ (c : Chain) (s : Run) (slots : AllSlots s) (ok : tickAnswer c s .number
         is = tick-passes z j l .work
 
         none : workedBy c t j ≡ workedBy c s j → CountsSo c s t j
-        none same = inr (λ f. omega (arith, same, f .1 .works), parted (workOf c j) _ _ _ _ is was same)
+        none same = inr (λ f. omega (arith, same, f .1 .works), parted (workOf c j) _ _ _ _ is was same .0)
 
         own : WorksAsked c s t j → CountsSo c s t j
         own k = by-cases (ℕ-discrete (doneAt s j + 1) (workOf c j))
-            (λ all. inl ((all, k), parted (workOf c j) (countAt t (suc j)) (doneAt t j) (countAt s (suc j) + 1) 0 is (omega arith) (omega (arith, k .works, all))))
-            (λ n. inr (λ f. n (f .0), parted (workOf c j) (countAt t (suc j)) (doneAt t j) (countAt s (suc j)) (doneAt s j + 1) is (omega (arith, n, was)) (omega (arith, k .works))))
+            (λ all. inl ((all, k), parted (workOf c j) (countAt t (suc j)) (doneAt t j) (countAt s (suc j) + 1) 0 is (omega arith) (omega (arith, k .works, all)) .0))
+            (λ n. inr (λ f. n (f .0), parted (workOf c j) (countAt t (suc j)) (doneAt t j) (countAt s (suc j)) (doneAt s j + 1) is (omega (arith, n, was)) (omega (arith, k .works)) .0))
 
     -- "the effect at t+1 of a firing then finished": a clean tick adds one to N_(j+1)'s count exactly when that works the last tick of a firing, and else leaves it
     pub node-fires : (countAt (tickAnswer c s .run) (suc j) ≡ countAt s (suc j) + 1) ↔ Finishes c s (tickAnswer c s .run) j
