@@ -21,7 +21,7 @@
 --                            and gives back the run state that it was handed, or leaves it where it was lent
 --   AlikeChains c d, AlikeRuns n s t, SlotsKept n s t
 --                            chains, and states, that differ in slots past n only (Runs; chains-alike and runs-alike, InSlots); t has the slots past n of s (InSlots)
---   chain-past, write-past, fire-past, tick-past, fire-kept, tick-kept
+--   chain-past, write-past, fire-past, tick-past, fire-kept, tick-kept, tick-long
 --                            slots past n are neither read nor changed
 use mathlib.Core.Path.{_≡_, refl, sym, ap, subst, _∙_}
 use mathlib.Core.Logic.{_≢_}
@@ -227,6 +227,10 @@ module _ (c : Chain) (s : Run) where
 
   pub tick-kept : SlotsKept (c .n) s (tickAnswer c s .run)
   tick-kept = let k = ticks.past-kept c s in record { counts = k .counts .slots; held = k .held .slots; done = k .done .slots }
+
+  -- of which it has as many as it was handed
+  pub tick-long : let t = tickAnswer c s .run in (length (t .counts) ≡ length (s .counts)) × ((length (t .held) ≡ length (s .held)) × (length (t .done) ≡ length (s .done)))
+  tick-long = let k = ticks.past-kept c s in (k .counts .long, (k .held .long, k .done .long))
 
 -- and not read: chains and states that differ there only are answered alike
 module _ {c d : Chain} (a : AlikeChains c d) where
