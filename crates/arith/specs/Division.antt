@@ -17,7 +17,9 @@
 use mathlib.Core.Path.{_≡_, sym, ap, subst}
 use mathlib.Core.Logic.{_≢_}
 use Prim.Native.Nat.{ℕ, zero, suc, _+_, _-_, _*_, _/_, _%_, _≤_, _<_, _∣_}
-use native.Mathlib.Nat.{mul-div-cancel', dvd-mul-right, le-refl, le-trans, zero-lt-suc, div-zero, div-add-mod, mul-div-le, lt-mul-div-succ, div-mul-le-self, le-div-iff-mul-le, div-lt-iff-lt-mul, div-eq-of-lt-le, add-mul-div-left, add-mul-mod-self-left, mul-le-mul-left, lt-of-mul-lt-mul-left}
+use native.Mathlib.Nat.{mul-div-cancel', dvd-mul-right, le-refl, le-trans, zero-lt-suc, div-zero, div-add-mod}
+use native.Mathlib.Nat.{mul-div-le, lt-mul-div-succ, div-mul-le-self, le-div-iff-mul-le, div-lt-iff-lt-mul}
+use native.Mathlib.Nat.{div-eq-of-lt-le, add-mul-div-left, add-mul-mod-self-left, mul-le-mul-left, lt-of-mul-lt-mul-left}
 use native.Mathlib.Omega.{arith}
 
 -- a number that code may divide by

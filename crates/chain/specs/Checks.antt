@@ -36,7 +36,8 @@ use Rattle.words.specs.Table.{tab}
 use Rattle.words.specs.Rows.{row}
 use Rattle.words.specs.declared.Queue.{Queue}
 use Rattle.chain.specs.Tests.{outside, Out, In, outside-true, outside-false, below-false}
-use Rattle.chain.specs.Refusals.{silent-as, Silents, Numbered, exact-at, refused, fine, test, first, Silent, First, first-is, Lowest, lowest-is, Only, only-test, only-map, only-tab, test-exact, test-silent}
+use Rattle.chain.specs.Refusals.{silent-as, Silents, Numbered, exact-at, refused, fine, test, first, Silent, First}
+use Rattle.chain.specs.Refusals.{first-is, Lowest, lowest-is, Only, only-test, only-map, only-tab, test-exact, test-silent}
 use Rattle.chain.specs.Record.{rowOf, workOf}
 use Rattle.chain.specs.declared.Refusal.{Refusal}
 use Rattle.chain.specs.declared.Chain.{Chain}

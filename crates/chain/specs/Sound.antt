@@ -16,7 +16,8 @@ use Rattle.words.specs.declared.Queue.{Queue}
 use Rattle.chain.specs.Tests.{In}
 use Rattle.chain.specs.Refusals.{first, orElse, Silent, Silents, silent-as, first-silent, first-append, first-flat, map-tab, or-silents, all-silent}
 use Rattle.chain.specs.Record.{rowOf, workOf}
-use Rattle.chain.specs.Checks.{Field, field, ticks, rowFields, fields, outOfRange, overdrawn, countCheck, rangeCheck, orderCheck, chainChecks, chainRefusal, count-silent, field-silent, row-silent}
+use Rattle.chain.specs.Checks.{Field, field, ticks, rowFields, fields, outOfRange, overdrawn, countCheck, rangeCheck}
+use Rattle.chain.specs.Checks.{orderCheck, chainChecks, chainRefusal, count-silent, field-silent, row-silent}
 use Rattle.chain.specs.declared.Refusal.{Refusal}
 use Rattle.chain.specs.declared.Chain.{Chain}
 

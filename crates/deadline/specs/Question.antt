@@ -28,7 +28,8 @@ use lib.Dec.{ltb, eqb}
 use lib.ListN.{getD, take}
 use borrow.Author.Tests.{eq-eqb, ne-eqb, eqb-false}
 use Rattle.chain.specs.Tests.{below-true, below-false, equal-true, or-true, or-false}
-use Rattle.chain.specs.Refusals.{refused, fine, test, first, orElse, first-append, Silent, Silents, or-silents, silent-as, first-silent, Numbered, exact-at, Only, only-test, test-exact, test-silent, said-earlier, numbered-append}
+use Rattle.chain.specs.Refusals.{refused, fine, test, first, orElse, first-append, Silent, Silents, or-silents, silent-as, first-silent}
+use Rattle.chain.specs.Refusals.{Numbered, exact-at, Only, only-test, test-exact, test-silent, said-earlier, numbered-append}
 use Rattle.chain.specs.Record.{rowOf}
 use Rattle.chain.specs.Sound.{Sound}
 use Rattle.chain.specs.declared.Refusal.{Refusal}

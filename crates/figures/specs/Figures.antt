@@ -15,7 +15,8 @@ use native.Mathlib.Omega.{arith}
 use lib.Dec.{T, eqb, eqb→eq}
 use lib.ListN.{length, getD, replicate}
 use Rattle.ardenquill.specs.Records.{Chain}
-use Rattle.figures.specs.Questions.{analyse, checkedForRun, fresh, fire, immediate, deadline, tick, tickForC, deadlineRun, deadlineRunForC, deadlineRunRefusal, answerTo, chainNumbers, stateNumbers}
+use Rattle.figures.specs.Questions.{analyse, checkedForRun, fresh, fire, immediate, deadline, tick, tickForC, deadlineRun}
+use Rattle.figures.specs.Questions.{deadlineRunForC, deadlineRunRefusal, answerTo, chainNumbers, stateNumbers}
 use Rattle.figures.specs.Literals.{Row, repeated, row, chain, feed, permeate, flush, run, text, refused, stateIs, sizesAre, keeps, cleanAt, overflowedAt}
 use Rattle.figures.specs.Files.{full, files, reports}
 use Rattle.figures.specs.ChainRefusals.{chainRefusals, byFile, byRecord, accepted}

@@ -22,7 +22,8 @@ use lib.Dec.{ltb}
 use borrow.Author.Tests.{eq-eqb, ne-eqb}
 use Rattle.words.specs.Table.{tab}
 use Rattle.chain.specs.Tests.{below-true, below-false}
-use Rattle.chain.specs.Refusals.{refused, test, first, orElse, first-append, first-last, Silent, Silents, Numbered, exact-at, or-silents, silent-as, Lowest, lowest-is, Only, only-test, only-tab, test-exact, test-silent, all-silent, said-earlier, numbered-append}
+use Rattle.chain.specs.Refusals.{refused, test, first, orElse, first-append, first-last, Silent, Silents, Numbered, exact-at, or-silents, silent-as}
+use Rattle.chain.specs.Refusals.{Lowest, lowest-is, Only, only-test, only-tab, test-exact, test-silent, all-silent, said-earlier, numbered-append}
 use Rattle.chain.specs.declared.Refusal.{Refusal}
 use Rattle.chain.specs.declared.Chain.{Chain}
 use Rattle.sizing.specs.Checks.{Enough, runChecks, runRefusal, runNumbers, run-numbered}

@@ -29,7 +29,8 @@ use Rattle.schedule.specs.Reached.{Reached, Calm, reached-fresh, fresh-calm, on
 use Rattle.schedule.specs.Schedule.{schedule, fresh-tight, ends, reached, counts-are-F}
 use Rattle.flow.specs.Flow.{thresholdIn, heldIn, sizeIn, firing, Shows, Ready, shows-fired}
 use Rattle.flow.specs.Shown.{shown, shown-is}
-use Rattle.immediate.specs.Steps.{Bounds, Held, FireAsk, FireDone, SettleAsk, SettleDone, Settling, fire-word, fire-firing, fire-settle, fire-done, fire-sink, settle-none, settle-fire, settle-more, settle-less, settle-done}
+use Rattle.immediate.specs.Steps.{Bounds, Held, FireAsk, FireDone, SettleAsk, SettleDone, Settling, fire-word, fire-firing}
+use Rattle.immediate.specs.Steps.{fire-settle, fire-done, fire-sink, settle-none, settle-fire, settle-more, settle-less, settle-done}
 
 -- the flow shows a state in which N_i may fire, nearest the sink
 pub record Fire (l : List ℕ) (i : ℕ) : Type 0 where

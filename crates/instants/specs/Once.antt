@@ -26,7 +26,8 @@ use Rattle.past.specs.Runs.{Whole}
 use Rattle.deadlines.specs.Deadline.{deadline}
 use Rattle.instants.specs.Best.{Best, chosen-best, chosen-only}
 use Rattle.instants.specs.Steps.{chosen, withDone, next, worked, finish, finished}
-use Rattle.instants.specs.Kept.{Running, finish-cases, worked-counts, worked-held, worked-clock, worked-other, worked-same, works-on, works-running, works-ends, cleared-running, unclean-overflow}
+use Rattle.instants.specs.Kept.{Running, finish-cases, worked-counts, worked-held, worked-clock, worked-other}
+use Rattle.instants.specs.Kept.{worked-same, works-on, works-running, works-ends, cleared-running, unclean-overflow}
 use Rattle.instants.specs.declared.Outcome.the-variants.{Clean}
 use Rattle.instants.specs.declared.Ticked.{Ticked}
 use Rattle.instants.specs.Source.{Due, Fits, SourceOnce, fired-whole}

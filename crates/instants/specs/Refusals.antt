@@ -34,7 +34,9 @@ use lib.ListN.{getD, take}
 use borrow.Author.Tests.{ne-eqb, eqb-false}
 use Rattle.words.specs.Table.{tab}
 use Rattle.chain.specs.Tests.{below-true, below-false, upto-true, upto-false, equal-true, sum-iff}
-use Rattle.chain.specs.Refusals.{refused, fine, first, orElse, first-append, first-last, first-fine, Silent, Silents, Numbered, exact-at, or-says, or-silents, silent-as, Lowest, lowest-is, Only, only-test, only-tab, only-or, test-exact, test-silent, test-alone, all-silent, said-earlier, numbered-append}
+use Rattle.chain.specs.Refusals.{refused, fine, first, orElse, first-append, first-last, first-fine, Silent, Silents, Numbered}
+use Rattle.chain.specs.Refusals.{exact-at, or-says, or-silents, silent-as, Lowest, lowest-is, Only, only-test, only-tab}
+use Rattle.chain.specs.Refusals.{only-or, test-exact, test-silent, test-alone, all-silent, said-earlier, numbered-append}
 use Rattle.chain.specs.declared.Refusal.{Refusal}
 use Rattle.chain.specs.declared.Chain.{Chain}
 use Rattle.sizing.specs.Checks.{limit, Enough, runChecks, runRefusal, runNumbers, run-numbered}
@@ -43,7 +45,8 @@ use Rattle.state.specs.State.{countAt, emptyRun, freshRun}
 use Rattle.state.specs.Checks.{stateCheck, FirstBroken, StateSound, state-exact, state-silent, state-only}
 use Rattle.state.specs.declared.Run.{Run}
 use Rattle.instants.specs.Steps.{tick, instants}
-use Rattle.instants.specs.Checks.{longest, clockCheck, spentTest, spentCheck, tickChecks, lengthCheck, deadlineRunChecks, tickRefusal, deadlineRunRefusal, outcomeOf, tickAnswer, deadlineRunAnswer}
+use Rattle.instants.specs.Checks.{longest, clockCheck, spentTest, spentCheck, tickChecks, lengthCheck, deadlineRunChecks}
+use Rattle.instants.specs.Checks.{tickRefusal, deadlineRunRefusal, outcomeOf, tickAnswer, deadlineRunAnswer}
 use Rattle.instants.specs.declared.Outcome.the-variants.{Clean}
 use Rattle.instants.specs.declared.Ticked.{Ticked}
 use Rattle.instants.specs.declared.TickAnswer.{TickAnswer}

@@ -11,7 +11,9 @@ use Prim.Native.Nat.{ℕ, zero, suc, _+_, _≤_, _<_}
 use native.Mathlib.Omega.{arith}
 use Rattle.ardenquill.specs.Analyses.{Accepted, analyse-accepts, Enough}
 use Rattle.ardenquill.specs.Runs.{freshRun, freshAnswer, fresh-state}
-use Rattle.ardenquill.specs.Ticks.{goes, onward, tick, ticks, instants, longest, tickAnswer, deadlineRunAnswer, ranAs, ticking-is, tick-ran, deadline-run-accepts, deadline-run-ran, run-is-ticks, Paced, fresh-paced, tick-paced, paced-ticking, run-may, tick-step}
+use Rattle.ardenquill.specs.Ticks.{goes, onward, tick, ticks, instants, longest, tickAnswer, deadlineRunAnswer}
+use Rattle.ardenquill.specs.Ticks.{ranAs, ticking-is, tick-ran, deadline-run-accepts, deadline-run-ran}
+use Rattle.ardenquill.specs.Ticks.{run-is-ticks, Paced, fresh-paced, tick-paced, paced-ticking, run-may, tick-step}
 use Rattle.ardenquill.specs.Records.{Chain, Run, Outcome, Clean, Overflowed, NoDeadline, Ticked, TickAnswer}
 
 -- the deadline run is not refused

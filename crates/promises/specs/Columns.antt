@@ -21,7 +21,8 @@ use lib.ListN.{length, getD, length-append, List·getD-append}
 use lib.Seq.{ext-getD, getD-at, getD-append-add}
 use lib.IntN.{ℤ}
 use Rattle.ardenquill.specs.Chains.{flat, tab, tab-at, tab-last, length-tab}
-use Rattle.ardenquill.specs.Reports.{decimal, column, integer, occurrences, Without, without-decimal, without-integer, numbers, line, lines, busyLine, textOf, refusalText, OneLine, heading-one, queue-one, busy-one, refusal-one}
+use Rattle.ardenquill.specs.Reports.{decimal, column, integer, occurrences, Without, without-decimal, without-integer, numbers, line}
+use Rattle.ardenquill.specs.Reports.{lines, busyLine, textOf, refusalText, OneLine, heading-one, queue-one, busy-one, refusal-one}
 use Rattle.ardenquill.specs.Records.{QueueSize, Analysis}
 use Rattle.promises.specs.Zeros.{zeroLine}
 use Rattle.promises.specs.Written.{Writes, WritesSigned, writes-same, signed-same, writes-decimal, signed-integer}

@@ -38,13 +38,16 @@ use Rattle.ardenquill.specs.Files.{readChecks, read-numbered, readRefusal, read
 use Rattle.ardenquill.specs.Analyses.{start, sized, sizeOf, analysisOf, analyseChecks, analyse-numbered, analyseRefusal, analyseAnswer, runChecks, run-numbered, runRefusal, runAnswer}
 use Rattle.ardenquill.specs.Reports.{refusalText, reportText, reportChecks, report-numbered, reportRefusal}
 use Rattle.ardenquill.specs.Runs as runs
-use Rattle.ardenquill.specs.Runs.{zeros, freshRun, freshAnswer, fresh-state, fireChecks, fire-numbered, fireRefusal, fireAnswer, fresh-refused, fire-refused, AlikeChains, AlikeRuns, analysis-alike, run-analysis-alike, fresh-alike, fire-alike}
+use Rattle.ardenquill.specs.Runs.{zeros, freshRun, freshAnswer, fresh-state, fireChecks, fire-numbered, fireRefusal, fireAnswer, fresh-refused}
+use Rattle.ardenquill.specs.Runs.{fire-refused, AlikeChains, AlikeRuns, analysis-alike, run-analysis-alike, fresh-alike, fire-alike}
 use Rattle.ardenquill.specs.Immediate.{immediateChecks, immediate-numbered, immediateRefusal, immediateAnswer, immediate-refused, immediate-alike}
 use Rattle.ardenquill.specs.Deadlines.{answeredDue, deadlineChecks, deadline-numbered, deadlineRefusal, deadlineAnswer, deadline-refused}
 use Rattle.ardenquill.specs.Flat.{coded}
 use Rattle.ardenquill.specs.declared.OutcomeAnswer.{OutcomeAnswer}
 use Rattle.ardenquill.specs.Ticks as ticks
-use Rattle.ardenquill.specs.Ticks.{outcomeOf, tickChecks, tick-numbered, tickRefusal, tickAnswer, deadlineRunChecks, deadline-run-numbered, deadlineRunRefusal, deadlineRunAnswer, KeptSlots, AlikeAnswers, question-alike, deadline-run-alike, deadline-run-kept}
+use Rattle.ardenquill.specs.Ticks.{outcomeOf, tickChecks, tick-numbered, tickRefusal, tickAnswer, deadlineRunChecks}
+use Rattle.ardenquill.specs.Ticks.{deadline-run-numbered, deadlineRunRefusal, deadlineRunAnswer}
+use Rattle.ardenquill.specs.Ticks.{KeptSlots, AlikeAnswers, question-alike, deadline-run-alike, deadline-run-kept}
 use Rattle.promises.specs.Order.{InOrder, in-order}
 use Rattle.promises.specs.Outcomes.{Cleanly, cleanly-is}
 use Rattle.promises.specs.Zeros.{zeroRow, zeroLine, zeroChain, zeroAnalysis, zeroRun, ZeroPast, slots-zero, ChainSlots, RunSlots}

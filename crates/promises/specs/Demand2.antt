@@ -67,20 +67,28 @@ use lib.ListN.{length, getD, take, drop, replicate}
 use borrow.Author.Tests.{le-leb}
 use Rattle.ardenquill.specs.Chains.{Silents, tab, rowOf, workOf, trimmed}
 use Rattle.ardenquill.specs.Files.{countOf, queuesAt, nodesAt, readAnswer, packedLength, packed, writeRefusal, Output, Bytes, packedFile, read-of-write, write-of-read, packed-again}
-use Rattle.ardenquill.specs.Analyses.{ceil, gcd, gcd-pos-left, residue, residue-000, residue-004, naming, common, nextX, nextY, xOf, yOf, y-multiple, busyIn, runChecks, analysisOf, analyseAnswer, Accepted, capacity-minimum, capacity-written, margin-unwritten, margin-balance}
+use Rattle.ardenquill.specs.Analyses.{ceil, gcd, gcd-pos-left, residue, residue-000, residue-004, naming, common}
+use Rattle.ardenquill.specs.Analyses.{nextX, nextY, xOf, yOf, y-multiple, busyIn, runChecks, analysisOf, analyseAnswer}
+use Rattle.ardenquill.specs.Analyses.{Accepted, capacity-minimum, capacity-written, margin-unwritten, margin-balance}
 use Rattle.ardenquill.specs.Runs as runs
-use Rattle.ardenquill.specs.Runs.{countAt, heldAt, freshRun, freshAnswer, fresh-empty, fresh-state, fired, May, stateCheck, state-silent, Whole, Firing, firing-is, fireAnswer, fire-accepts, fire-accepted, count-fired, count-other, held-output, held-other}
+use Rattle.ardenquill.specs.Runs.{countAt, heldAt, freshRun, freshAnswer, fresh-empty, fresh-state, fired, May, stateCheck, state-silent, Whole}
+use Rattle.ardenquill.specs.Runs.{Firing, firing-is, fireAnswer, fire-accepts, fire-accepted, count-fired, count-other, held-output, held-other}
 use Rattle.ardenquill.specs.Histories.{times, counted, after}
 use Rattle.ardenquill.specs.Immediate as immediate
 use Rattle.ardenquill.specs.Immediate.{F, schedule, Next, Follows, rule, immediateAnswer, immediate-accepts, permitted, counts-are-F}
 use Rattle.ardenquill.specs.Deadlines.{earlier, earlier-some, deadline, index, answeredDue, deadlineAnswer, deadline-accepts, deadline-due}
 use Rattle.ardenquill.specs.Ticks as ticks
-use Rattle.ardenquill.specs.Ticks.{kindOf, tickOf, atOf, outcomeOf, tickAnswer, deadlineRunAnswer, ranAs, left, tickRefusal, tick-accepts, tick-9, deadline-run-accepts, TickOnce, once-counts, once-keeps, Spills, Lacks, OneTick, one-overflows, one-lacks, one-cleans, one-stays, one-leaves, TicksTo, answer-one, answer-exactly, Ends, HowMany, total, Waits, Rising, trace, entriesOf, FiredAt, source-entries, entries-when, entries-apart, entries-first, entries-rise}
+use Rattle.ardenquill.specs.Ticks.{kindOf, tickOf, atOf, outcomeOf, tickAnswer, deadlineRunAnswer, ranAs, left, tickRefusal, tick-accepts}
+use Rattle.ardenquill.specs.Ticks.{tick-9, deadline-run-accepts, TickOnce, once-counts, once-keeps, Spills, Lacks, OneTick, one-overflows, one-lacks}
+use Rattle.ardenquill.specs.Ticks.{one-cleans, one-stays, one-leaves, TicksTo, answer-one, answer-exactly, Ends, HowMany, total, Waits}
+use Rattle.ardenquill.specs.Ticks.{Rising, trace, entriesOf, FiredAt, source-entries, entries-when, entries-apart, entries-first, entries-rise}
 use Rattle.ardenquill.specs.Flat.{coded, flat}
 use Rattle.ardenquill.specs.Records.{Chain, ChainAnswer, LengthAnswer, Analysis, Run, Outcome, Clean, Ticked, TickAnswer}
 use Rattle.promises.specs.Order.{LowestOf, said}
 use Rattle.promises.specs.Replay.{pOf, τOf, cOf, Spent, Accepts, line, rateX, rateY, replayAnswer, Fires, AllSlots, Passes, Ample, Low, NearestFirst, Runs, accepts-is, fires-is}
-use Rattle.promises.specs.Laws.{report-is, x-is, y-is, by-is, capacity-is, rate-x-is, rate-y-is, last, minimum-by, minimum-as, largest-multiple, may-run-is, run-quiet, silents-append, whole, passes-is, index-down, taken, state-is, moment, parts, sound, ends-in, keeps, minimum-is, margin-is, coded-overflowed, coded-undated, coded-clean, one-firing, over-is}
+use Rattle.promises.specs.Laws.{report-is, x-is, y-is, by-is, capacity-is, rate-x-is, rate-y-is, last, minimum-by, minimum-as, largest-multiple}
+use Rattle.promises.specs.Laws.{may-run-is, run-quiet, silents-append, whole, passes-is, index-down, taken, state-is, moment, parts, sound}
+use Rattle.promises.specs.Laws.{ends-in, keeps, minimum-is, margin-is, coded-overflowed, coded-undated, coded-clean, one-firing, over-is}
 use Rattle.promises.specs.ByTicks.{DeadlineRuns, ticksFrom, ticks-are-run}
 use Rattle.promises.specs.Outcomes.{Says, Cleanly, OverflowedAt, UndatedAt, cleanly-is, overflowed-is, undated-is, says-tick}
 use Rattle.promises.specs.ByCounts.{rule-exhausted, exact-count}

@@ -30,8 +30,13 @@ use native.Mathlib.Nat.{le-refl, mod-eq-zero-of-dvd, dvd-of-mod-eq-zero}
 use native.Mathlib.Decide.{ℕ-discrete, decLt}
 use native.Mathlib.Omega.{arith}
 use lib.ListN.{length, getD}
-use Rattle.ardenquill.specs.Chains.{refused, test, Silent, Silents, first-silent, test-silent, countCheck, count-silent, rangeCheck, range-exact, orderCheck, order-exact, rowOf, workOf, none, tab, slot-used, is-slots, answered, answered-fine, same-chain, Sound}
-use Rattle.ardenquill.specs.Files.{fourAt, wordAt, word-there, rowAt, row-there, same-row, countOf, queuesAt, nodesAt, chainOf, lengthCheck, length-silent, BadLength, badTable, BadTable, bad-table, GoodTable, good-table, overlap, Shared, overlap-false, BadTables, offsetTests, offsetCheck, fileOffsets, readRefusal, readAnswer, read-1, read-2, read-3, read-4, read-5, Placed, read-accepts, read-fine}
+use Rattle.ardenquill.specs.Chains.{refused, test, Silent, Silents, first-silent, test-silent, countCheck}
+use Rattle.ardenquill.specs.Chains.{count-silent, rangeCheck, range-exact, orderCheck, order-exact, rowOf, workOf}
+use Rattle.ardenquill.specs.Chains.{none, tab, slot-used, is-slots, answered, answered-fine, same-chain, Sound}
+use Rattle.ardenquill.specs.Files.{fourAt, wordAt, word-there, rowAt, row-there, same-row, countOf, queuesAt, nodesAt, chainOf}
+use Rattle.ardenquill.specs.Files.{lengthCheck, length-silent, BadLength, badTable, BadTable, bad-table, GoodTable, good-table}
+use Rattle.ardenquill.specs.Files.{overlap, Shared, overlap-false, BadTables, offsetTests, offsetCheck, fileOffsets, readRefusal}
+use Rattle.ardenquill.specs.Files.{readAnswer, read-1, read-2, read-3, read-4, read-5, Placed, read-accepts, read-fine}
 use Rattle.ardenquill.specs.Records.{Refusal, Queue, Chain, ChainAnswer}
 use Rattle.promises.specs.Order.{said}
 use Rattle.promises.specs.Zeros.{ChainSlots, slots-zero}

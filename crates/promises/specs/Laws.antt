@@ -34,7 +34,9 @@ use borrow.Author.Tests.{lt-leb}
 use Rattle.ardenquill.specs.Chains.{row, rowOf, first, Silent, Silents, first-silent, Sound}
 use Rattle.ardenquill.specs.Files.{bytesOf, packedLength, header, rows, nodes, packed, roomCheck, writeRefusal, Output}
 use Rattle.ardenquill.specs.Analyses as sizes
-use Rattle.ardenquill.specs.Analyses.{gcd, gcd-pos-left, residue, Largest, residue-largest, xOf, yOf, source-rate, minimumOf, namingOf, capacityOf, marginOf, sizeBy, sizeOf, noSize, size-at, analysisOf, analyseAnswer, Accepted, analysed, Enough, runChecks, runRefusal, run-accepts}
+use Rattle.ardenquill.specs.Analyses.{gcd, gcd-pos-left, residue, Largest, residue-largest, xOf, yOf, source-rate}
+use Rattle.ardenquill.specs.Analyses.{minimumOf, namingOf, capacityOf, marginOf, sizeBy, sizeOf, noSize, size-at, analysisOf}
+use Rattle.ardenquill.specs.Analyses.{analyseAnswer, Accepted, analysed, Enough, runChecks, runRefusal, run-accepts}
 use Rattle.ardenquill.specs.Runs.{heldAt, freshRun, answered, fired, StateSound, Whole, Firing, firing-is, held-input, over-enough, AlikeChains, flat-alike, record-alike, Over, Steady}
 use Rattle.ardenquill.specs.Histories.{after, Permitted, Prompt, EachFiring, each-before}
 use Rattle.ardenquill.specs.Immediate as immediate

@@ -34,7 +34,8 @@ use Rattle.ardenquill.specs.Chains as chains
 use Rattle.ardenquill.specs.Chains.{rowOf, workOf, Silent, Silents, first-silent, factoryRefusal, factoryAnswer, factory-exact}
 use Rattle.ardenquill.specs.Analyses.{start, minimumOf, sized, analyseChecks, analyseRefusal, analyseAnswer, runChecks, runRefusal, runAnswer, run-accepts, run-8, Enough, FirstShort, Accepted}
 use Rattle.ardenquill.specs.Runs as runs
-use Rattle.ardenquill.specs.Runs.{countAt, heldAt, doneAt, Over, FirstBroken, stateCheck, state-silent, countCheck, count-silent, overCheck, over-silent, freshAnswer, fireRefusal, fireAnswer, fire-9, fire-11, fire-12, fire-17}
+use Rattle.ardenquill.specs.Runs.{countAt, heldAt, doneAt, Over, FirstBroken, stateCheck, state-silent, countCheck, count-silent}
+use Rattle.ardenquill.specs.Runs.{overCheck, over-silent, freshAnswer, fireRefusal, fireAnswer, fire-9, fire-11, fire-12, fire-17}
 use Rattle.ardenquill.specs.Immediate.{immediateRefusal, immediateAnswer, immediate-earlier}
 use Rattle.ardenquill.specs.Deadlines.{answeredDue, deadlineRefusal, deadlineAnswer, deadline-earlier}
 use Rattle.ardenquill.specs.Ticks.{outcomeOf, tickRefusal, tickAnswer, tick-earlier, tick-17, deadlineRunRefusal, deadlineRunAnswer, deadline-run-earlier}

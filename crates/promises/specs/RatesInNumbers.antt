@@ -27,7 +27,9 @@ use native.Mathlib.Nat.{mul-div-cancel-left, mul-div-cancel', dvd-mul-right-of-d
 use native.Mathlib.Decide.{decLe}
 use native.Mathlib.Omega.{arith}
 use Rattle.ardenquill.specs.Chains.{workOf, Silents, chainChecks, Sound, sound-is}
-use Rattle.ardenquill.specs.Analyses.{gcd, gcd-dvd-left, gcd-dvd-right, gcd-greatest, ceil, naming, naming-reaches, common, nextX, nextY, xOf, yOf, y-pos, busyIn, busyOf, cycleOf, parts-exact, InLimit, FirstTooLarge, rateCheck, sized, analysisOf, analyseRefusal, analyseAnswer, analyse-6, analyse-7, runRefusal, runAnswer, run-earlier, rates-silent, Accepted}
+use Rattle.ardenquill.specs.Analyses.{gcd, gcd-dvd-left, gcd-dvd-right, gcd-greatest, ceil, naming, naming-reaches, common, nextX, nextY, xOf}
+use Rattle.ardenquill.specs.Analyses.{yOf, y-pos, busyIn, busyOf, cycleOf, parts-exact, InLimit, FirstTooLarge, rateCheck, sized, analysisOf}
+use Rattle.ardenquill.specs.Analyses.{analyseRefusal, analyseAnswer, analyse-6, analyse-7, runRefusal, runAnswer, run-earlier, rates-silent, Accepted}
 use Rattle.ardenquill.specs.Runs as runs
 use Rattle.ardenquill.specs.Runs.{freshAnswer, fireRefusal, fireAnswer, fire-earlier}
 use Rattle.ardenquill.specs.Records.{Chain, Run}

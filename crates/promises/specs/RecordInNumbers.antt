@@ -26,7 +26,10 @@ use native.Mathlib.Nat.{add-zero}
 use native.Mathlib.Decide.{ℕ-discrete}
 use native.Mathlib.Omega.{arith}
 use lib.ListN.{length, getD}
-use Rattle.ardenquill.specs.Chains.{Out, In, outside-true, outside-false, sum-iff, refused, orElse, first, Silent, Silents, or-says, or-silents, all-silent, test-exact, test-silent, tab, row, rowOf, workOf, Field, field, ticks, rowFields, FieldOut, FirstOut, FirstOver, fields, outOfRange, overdrawn, countCheck, rangeCheck, orderCheck, recordRange, rowRange, nodeRange, range-parts, count-silent, row-silent, range-exact, order-exact, range-only, order-only, Sound, sound-is}
+use Rattle.ardenquill.specs.Chains.{Out, In, outside-true, outside-false, sum-iff, refused, orElse, first, Silent, Silents, or-says, or-silents}
+use Rattle.ardenquill.specs.Chains.{all-silent, test-exact, test-silent, tab, row, rowOf, workOf, Field, field, ticks, rowFields, FieldOut, FirstOut}
+use Rattle.ardenquill.specs.Chains.{FirstOver, fields, outOfRange, overdrawn, countCheck, rangeCheck, orderCheck, recordRange, rowRange, nodeRange}
+use Rattle.ardenquill.specs.Chains.{range-parts, count-silent, row-silent, range-exact, order-exact, range-only, order-only, Sound, sound-is}
 use Rattle.ardenquill.specs.Files.{packed, writeRefusal, Output, write-2, write-4, write-5, write-10}
 use Rattle.ardenquill.specs.Analyses.{sized, analyseRefusal, analyseAnswer, analyse-2, analyse-4, analyse-5}
 use Rattle.ardenquill.specs.Records.{Refusal, Queue, Chain, LengthAnswer}

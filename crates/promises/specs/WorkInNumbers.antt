@@ -23,7 +23,8 @@ use lib.Dec.{eqb}
 use lib.ListN.{length, getD}
 use Rattle.ardenquill.specs.Chains.{workOf}
 use Rattle.ardenquill.specs.Runs.{zeros, countAt, doneAt, freshRun, fresh-empty}
-use Rattle.ardenquill.specs.Ticks.{tickAnswer, deadlineRunAnswer, workedBy, spentOn, total, Waits, tick-total, SourceOnce, run-start, CleanStep, along, Entry, nodes, trace, instantsOf, Rising, entriesOf, entries-count, FiredAt}
+use Rattle.ardenquill.specs.Ticks.{tickAnswer, deadlineRunAnswer, workedBy, spentOn, total, Waits, tick-total, SourceOnce, run-start}
+use Rattle.ardenquill.specs.Ticks.{CleanStep, along, Entry, nodes, trace, instantsOf, Rising, entriesOf, entries-count, FiredAt}
 use Rattle.ardenquill.specs.Records.{Chain, Run, TickAnswer}
 use Rattle.promises.specs.Replay.{AllSlots}
 use Rattle.promises.specs.Zeros.{zeroRun}

@@ -16,7 +16,8 @@ use Rattle.chain.specs.Tests.{Out}
 use Rattle.chain.specs.Refusals.{Silents, Numbered, exact-at, refused, fine, first, orElse, first-append, numbered-append}
 use Rattle.chain.specs.Checks.{countCheck, fields, FirstOut, FirstOver, count-exact, range-exact, order-exact}
 use Rattle.chain.specs.declared.Refusal.{Refusal}
-use Rattle.chainfile.specs.File.{countOf, queuesAt, nodesAt, chainOf, lengthCheck, fileOffsets, fileRange, readChecks, readRefusal, BadLength, BadTables, length-exact, offset-exact, readNumbers, read-numbered}
+use Rattle.chainfile.specs.File.{countOf, queuesAt, nodesAt, chainOf, lengthCheck, fileOffsets, fileRange, readChecks}
+use Rattle.chainfile.specs.File.{readRefusal, BadLength, BadTables, length-exact, offset-exact, readNumbers, read-numbered}
 use Rattle.chainfile.specs.Packed.{roomCheck, room-exact, room-only, room-last}
 use Rattle.sizing.specs.Load.{busyIn, busyOf, cycleOf}
 use Rattle.sizing.specs.Sizes.{analysisOf}

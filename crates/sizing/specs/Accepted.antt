@@ -26,7 +26,8 @@ use Rattle.onequeue.specs.Capacity.{margin}
 use Rattle.sizing.specs.Nodes.{yOf}
 use Rattle.sizing.specs.Load.{busyOf, cycleOf}
 use Rattle.sizing.specs.Sizes.{sizeBy, sizeOf, analysisOf, sized, sized-fine, sized-said, minimum-most, naming-most, capacity-most}
-use Rattle.sizing.specs.Checks.{limit, InLimit, Enough, sizeChecks, analyseChecks, analyseRefusal, analyseAnswer, runRefusal, runAnswer, capacityCheck, analyse-parts, run-parts, rates-silent, load-silent, capacity-silent}
+use Rattle.sizing.specs.Checks.{limit, InLimit, Enough, sizeChecks, analyseChecks, analyseRefusal, analyseAnswer, runRefusal}
+use Rattle.sizing.specs.Checks.{runAnswer, capacityCheck, analyse-parts, run-parts, rates-silent, load-silent, capacity-silent}
 use Rattle.sizing.specs.declared.QueueSize.{QueueSize}
 use Rattle.sizing.specs.declared.AnalysisAnswer.{AnalysisAnswer}
 

@@ -35,9 +35,11 @@ use borrow.Author.Tests.{le-ltb, eq-eqb}
 use lib.ListN.{getD, take}
 use Rattle.words.specs.Table.{tab, tab-alike}
 use Rattle.chain.specs.Tests.{Out, below-true, below-false, differ-true, differ-false, or-true, or-false, and-true, and-false}
-use Rattle.chain.specs.Refusals.{refused, fine, test, first, orElse, first-append, first-last, Silent, Silents, Numbered, exact-at, Lowest, lowest-is, Only, only-test, only-tab, test-exact, test-silent, all-silent, said-earlier, numbered-append}
+use Rattle.chain.specs.Refusals.{refused, fine, test, first, orElse, first-append, first-last, Silent, Silents, Numbered, exact-at, Lowest}
+use Rattle.chain.specs.Refusals.{lowest-is, Only, only-test, only-tab, test-exact, test-silent, all-silent, said-earlier, numbered-append}
 use Rattle.chain.specs.Record.{rowOf}
-use Rattle.chain.specs.Checks.{countCheck, rangeCheck, orderCheck, recordRange, chainChecks, chainRefusal, fields, FirstOut, FirstOver, count-exact, range-exact, order-exact, chainNumbers, chain-numbered}
+use Rattle.chain.specs.Checks.{countCheck, rangeCheck, orderCheck, recordRange, chainChecks, chainRefusal, fields}
+use Rattle.chain.specs.Checks.{FirstOut, FirstOver, count-exact, range-exact, order-exact, chainNumbers, chain-numbered}
 use Rattle.chain.specs.declared.Refusal.{Refusal}
 use Rattle.chain.specs.declared.Chain.{Chain}
 use Rattle.onequeue.specs.Capacity.{capacity}

@@ -32,7 +32,8 @@ use Rattle.sizing.specs.Accepted.{Accepted, analyse-accepts}
 use Rattle.state.specs.State.{countAt, heldAt, emptyRun, freshRun, answered}
 use Rattle.state.specs.Fired.{fired, Over, May}
 use Rattle.state.specs.Checks as own
-use Rattle.state.specs.Checks.{stateCheck, lentRun, countCheck, overCheck, cramped, roomCheck, FirstBroken, StateSound, state-exact, over-exact, room-exact, state-silent, over-silent, room-silent, state-only, over-only, room-only}
+use Rattle.state.specs.Checks.{stateCheck, lentRun, countCheck, overCheck, cramped, roomCheck, FirstBroken, StateSound, state-exact}
+use Rattle.state.specs.Checks.{over-exact, room-exact, state-silent, over-silent, room-silent, state-only, over-only, room-only}
 use Rattle.state.specs.declared.Run.{Run}
 use Rattle.state.specs.declared.RunAnswer.{RunAnswer}
 

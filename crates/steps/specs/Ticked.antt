@@ -29,7 +29,9 @@ use Rattle.deadlines.specs.Deadline.{deadline}
 use Rattle.sizing.specs.Plan.{workIn}
 use Rattle.deadline.specs.Dues.{Shown}
 use Rattle.instants.specs.Steps.{clean, goes, onward, withDone, sourced, lacking, choose, chosen, worked, ended, finish, finished, begun, tick}
-use Rattle.instants.specs.Kept.{finish-cases, begun-stays, Running, SourceStep, sourced-clean, begun-clean, chosen-low, chosen-over, worked-counts, worked-held, worked-clock, worked-same, works-on, works-ends, unclean-overflow, unclean-undated, tick-begun, fired-clock}
+use Rattle.instants.specs.Kept.{finish-cases, begun-stays, Running, SourceStep, sourced-clean, begun-clean}
+use Rattle.instants.specs.Kept.{chosen-low, chosen-over, worked-counts, worked-held, worked-clock, worked-same}
+use Rattle.instants.specs.Kept.{works-on, works-ends, unclean-overflow, unclean-undated, tick-begun, fired-clock}
 use Rattle.instants.specs.declared.Outcome.{Outcome}
 use Rattle.instants.specs.declared.Outcome.the-variants.{Clean, Overflowed, NoDeadline}
 use Rattle.instants.specs.declared.Ticked.{Ticked}

@@ -30,7 +30,8 @@ use Rattle.state.specs.declared.Run.{Run}
 use Rattle.past.specs.Chains.{AlikeChains, run-alike}
 use Rattle.past.specs.Runs.{AlikeRuns, state-alike, over-alike, cramped-alike}
 use Rattle.deadlines.specs.Deadline.{deadline, indexCheck}
-use Rattle.instants.specs.Steps.{clean, overflowed, undated, withDone, divides, sourced, next, lackingTest, lacking, asEarly, choose, chosen, worked, endedIn, ended, finish, finished, begun, advanced, tick, instants}
+use Rattle.instants.specs.Steps.{clean, overflowed, undated, withDone, divides, sourced, next, lackingTest, lacking, asEarly}
+use Rattle.instants.specs.Steps.{choose, chosen, worked, endedIn, ended, finish, finished, begun, advanced, tick, instants}
 use Rattle.instants.specs.Checks.{longest, spentTest, spentCheck, lengthCheck, tickRefusal, deadlineRunRefusal}
 use Rattle.instants.specs.Best.{choose-best}
 use Rattle.instants.specs.Kept.{chosen-low}

@@ -27,8 +27,10 @@ use Rattle.state.specs.declared.Run.{Run}
 use Rattle.history.specs.History.{times, after, Permitted, HasHeld, after-append, EachFiring, each-append}
 use Rattle.history.specs.Laws.{counted, balance, naming}
 use Rattle.instants.specs.Checks.{longest}
-use Rattle.instants.specs.Steps.{clean, overflowed, undated, onward, goes, withDone, divides, sourced, lacking, begun, chosen, worked, endedIn, ended, finish, finished, advanced, tick, ticks, instants}
-use Rattle.instants.specs.Kept.{finish-cases, Running, SourceStep, Countable, source-may, sourced-clean, begun-clean, chosen-over, worked-counts, worked-held, worked-other, worked-same, cleared-running, finish-may, tick-step}
+use Rattle.instants.specs.Steps.{clean, overflowed, undated, onward, goes, withDone, divides, sourced, lacking, begun}
+use Rattle.instants.specs.Steps.{chosen, worked, endedIn, ended, finish, finished, advanced, tick, ticks, instants}
+use Rattle.instants.specs.Kept.{finish-cases, Running, SourceStep, Countable, source-may, sourced-clean, begun-clean, chosen-over}
+use Rattle.instants.specs.Kept.{worked-counts, worked-held, worked-other, worked-same, cleared-running, finish-may, tick-step}
 use Rattle.instants.specs.Fresh.{Paced, fresh-paced, paced-countable, tick-paced, run-is-ticks}
 use Rattle.instants.specs.declared.Outcome.{Outcome}
 use Rattle.instants.specs.declared.Outcome.the-variants.{Clean, Overflowed, NoDeadline}
