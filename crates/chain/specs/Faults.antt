@@ -40,7 +40,8 @@ fineRow q e =
 
 pub fine-row : (q : Queue) (e : ℕ) → (fineRow q e ≡ true) ↔ (SoundRow q × In 1 1000000 e)
 fine-row q e = Iff·trans
-    (and-true (and-true (and-true (and-true (and-true (and-true (and-true (and-true (upto-true _ _) (upto-true _ _)) (upto-true _ _)) (upto-true _ _)) (upto-true _ _)) (upto-true _ _)) (equal-true _ _)) (upto-true _ _)) (upto-true _ _)) (
+    (and-true (and-true (and-true (and-true (and-true (and-true (and-true (and-true (upto-true _ _) (upto-true _ _)) (upto-true _ _)) (upto-true _ _)) (upto-true _ _))
+    (upto-true _ _)) (equal-true _ _)) (upto-true _ _)) (upto-true _ _)) (
       λ (((((((p, t), c), o), b), r), k), k′). (record { produce = p; threshold = (omega arith, t); consume = (c, omega arith); capacity = b; reserved = r; order = o }, (k, k′)),
       λ (s, k). (((((((s .produce, s .threshold .1), s .consume .0), s .order), s .capacity), s .reserved), k .0), k .1),
     )
@@ -58,7 +59,11 @@ withRow f q at e to = record { rows = orElse (f .rows) (rowRange q at); nodes = 
 
 -- what is refused of the first i rows
 abbrev pub faultsOf : (ℕ → Queue) → (ℕ → ℕ) → ℕ → ℕ → ℕ → Faults
-faultsOf row e q w i = record { rows = first (tab i (λ j. rowRange (row j) (q + 20 * j))); nodes = first (tab i (λ j. nodeRange (e j) (w + 4 * j))); order = first (tab i (λ j. overdrawn (row j) (q + 20 * j))) }
+faultsOf row e q w i = record {
+  rows = first (tab i (λ j. rowRange (row j) (q + 20 * j)));
+  nodes = first (tab i (λ j. nodeRange (e j) (w + 4 * j)));
+  order = first (tab i (λ j. overdrawn (row j) (q + 20 * j)));
+}
 
 -- 4 of the period and of the rows, then 5
 abbrev pub settled : ℕ → Faults → Refusal

@@ -308,10 +308,12 @@ speaks-numbered N some (M ∷ Ms) (r ∷ rs) o a e = speaks? r
 
 -- checks behind others have no number but their own, so every other number is said exactly when the others say it
 pub said-earlier : (N L : ℕ) → N ≢ 0 → (ps : List Refusal) (Ns : List ℕ) (rs : List Refusal) → Numbered Ns rs → Others N Ns → (first (ps ++ rs) ≡ refused N L) ↔ (first ps ≡ refused N L)
-said-earlier N L some ps Ns rs o a = rw (first-append ps rs) (Iff·trans (or-says N L some (first ps) (first rs)) (⊎-elim (λ e. e) (λ s. absurd (speaks-numbered N some Ns rs o a (number-of (s .1)))), inl))
+said-earlier N L some ps Ns rs o a = rw (first-append ps rs)
+    (Iff·trans (or-says N L some (first ps) (first rs)) (⊎-elim (λ e. e) (λ s. absurd (speaks-numbered N some Ns rs o a (number-of (s .1)))), inl))
 
 -- a list of checks says the number of its check k at L exactly when the checks before that one are silent and it says so
-pub exact-at : (Ns : List ℕ) (rs : List Refusal) → Numbered Ns rs → T (distinct Ns) → (k L : ℕ) → k < length rs → (first rs ≡ refused (getD Ns k 0) L) ↔ (Silents (take k rs) × (getD rs k fine ≡ refused (getD Ns k 0) L))
+pub exact-at : (Ns : List ℕ) (rs : List Refusal) → Numbered Ns rs → T (distinct Ns) → (k L : ℕ) → k < length rs
+    → (first rs ≡ refused (getD Ns k 0) L) ↔ (Silents (take k rs) × (getD rs k fine ≡ refused (getD Ns k 0) L))
 unfolding first Silents Numbered
 exact-at Ns [] o d k L l = absurd (not-suc-le-zero l)
 exact-at [] (r ∷ rs) o d k L l = absurd o
@@ -361,7 +363,10 @@ lowest-is N L some g n = Iff·trans (first-is N L some (tab n g)) (out, back)
     }
 
 pub all-silent : (g : ℕ → Refusal) (n : ℕ) → Silent (first (tab n g)) ↔ ((i : ℕ) → i < n → Silent (g i))
-all-silent g n = Iff·trans (first-silent (tab n g)) (λ h i l. number-of (sym (tab-at n g i fine l)) ∙ silents-at (tab n g) h i, λ h. silents-all (tab n g) (λ j l. let m : j < n = rw (length-tab n g) at l in number-of (tab-at n g j fine m) ∙ h j m))
+all-silent g n = Iff·trans (first-silent (tab n g)) (
+  λ h i l. number-of (sym (tab-at n g i fine l)) ∙ silents-at (tab n g) h i,
+  λ h. silents-all (tab n g) (λ j l. let m : j < n = rw (length-tab n g) at l in number-of (tab-at n g j fine m) ∙ h j m),
+)
 
 -- a silent check behind a list adds nothing
 pub first-last : (rs : List Refusal) → orElse (first rs) fine ≡ first rs

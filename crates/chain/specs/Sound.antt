@@ -82,10 +82,17 @@ row-sound q at = (out, back)
 
     back : SoundRow q → Silent (rowRange q at) × Silent (overdrawn q at)
     back s =
-        let all : Silents (map outOfRange (rowFields q at)) = (fits _ _ _ _ .1 (s .produce), (fits _ _ _ _ .1 (s .threshold), (fits _ _ _ _ .1 (s .consume), (fits _ 0 1000000 (q .capacity) .1 (omega arith, s .capacity), (fits _ 0 0 (q .reserved) .1 (omega arith, omega (arith, s .reserved)), tt))))) in
+        let all : Silents (map outOfRange (rowFields q at)) = (
+          fits _ _ _ _ .1 (s .produce),
+          (
+            fits _ _ _ _ .1 (s .threshold),
+            (fits _ _ _ _ .1 (s .consume), (fits _ 0 1000000 (q .capacity) .1 (omega arith, s .capacity), (fits _ 0 0 (q .reserved) .1 (omega arith, omega (arith, s .reserved)), tt))),
+          ),
+        ) in
         (first-silent (map outOfRange (rowFields q at)) .1 all, row-silent q at .1 (s .order))
 
-range-silent : (c : Chain) (q w : ℕ) → Silent (rangeCheck c q w) ↔ (In 1 1000000 (c .period) × (((i : ℕ) → i < c .n → Silent (rowRange (rowOf c i) (q + 20 * i))) × ((i : ℕ) → i < c .n → Silent (nodeRange (workOf c i) (w + 4 * i)))))
+range-silent : (c : Chain) (q w : ℕ) → Silent (rangeCheck c q w)
+    ↔ (In 1 1000000 (c .period) × (((i : ℕ) → i < c .n → Silent (rowRange (rowOf c i) (q + 20 * i))) × ((i : ℕ) → i < c .n → Silent (nodeRange (workOf c i) (w + 4 * i)))))
 range-silent c q w = rw (range-parts c q w)
     (Iff·trans (or-silents _ _) (Iff·and (field-silent (ticks 4 (c .period))) (Iff·trans (or-silents _ _) (Iff·and (all-silent _ (c .n)) (all-silent _ (c .n))))))
 
@@ -112,7 +119,13 @@ sound-is c q w = (out, back)
         }
 
     back : Sound c → Silents (countCheck (c .n) ∷ rangeCheck c q w ∷ orderCheck c q ∷ [])
-    back s = (count-silent (c .n) .1 (s .count), (range-silent c q w .1 (s .period, (λ i l. at-row i .1 (s .rows i l) .0, λ i l. at-node i .1 (s .work i l))), (all-silent (λ i. overdrawn (rowOf c i) (q + 20 * i)) (c .n) .1 (λ i l. at-row i .1 (s .rows i l) .1), tt)))
+    back s = (
+      count-silent (c .n) .1 (s .count),
+      (
+        range-silent c q w .1 (s .period, (λ i l. at-row i .1 (s .rows i l) .0, λ i l. at-node i .1 (s .work i l))),
+        (all-silent (λ i. overdrawn (rowOf c i) (q + 20 * i)) (c .n) .1 (λ i l. at-row i .1 (s .rows i l) .1), tt),
+      ),
+    )
 
 pub sound : (c : Chain) → Silent (chainRefusal c) ↔ Sound c
 unfolding chainRefusal

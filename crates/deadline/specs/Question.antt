@@ -123,7 +123,8 @@ module _ (c : Chain) (i k : ℕ) where
 
 -- a question is refused with a number exactly when no earlier check speaks and the number's own condition holds
 module _ (c : Chain) (i k L : ℕ) where
-  deadline-at : (m : ℕ) → m < 8 → (deadlineRefusal c i k ≡ refused (getD deadlineNumbers m 0) L) ↔ (Silents (take m (deadlineChecks c i k)) × (getD (deadlineChecks c i k) m fine ≡ refused (getD deadlineNumbers m 0) L))
+  deadline-at : (m : ℕ) → m < 8 → (deadlineRefusal c i k ≡ refused (getD deadlineNumbers m 0) L)
+      ↔ (Silents (take m (deadlineChecks c i k)) × (getD (deadlineChecks c i k) m fine ≡ refused (getD deadlineNumbers m 0) L))
   unfolding deadlineRefusal
   deadline-at m l = exact-at deadlineNumbers (deadlineChecks c i k) (deadline-numbered c i k) tt m L l
 

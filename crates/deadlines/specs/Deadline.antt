@@ -137,7 +137,11 @@ earlier-some q k = omega arith
 pub earlier-mono : (q : Queue) (j k : ℕ) → j ≤ k → earlier q j ≤ earlier q k
 unfolding earlier
 earlier-mono q j k l =
-    omega (arith, floor-mono ((j - 1) * q .consume + capacityOf q) ((k - 1) * q .consume + capacityOf q) (q .produce) (omega (arith, mul-le-mul-right {m = j - 1} {n = k - 1} (q .consume) (omega arith))))
+    omega (
+      arith,
+      floor-mono ((j - 1) * q .consume + capacityOf q) ((k - 1) * q .consume + capacityOf q)
+          (q .produce) (omega (arith, mul-le-mul-right {m = j - 1} {n = k - 1} (q .consume) (omega arith))),
+    )
 
 -- d firings of the producer give what e firings of the consumer take
 pub earlier-shift : (q : Queue) (k d e : ℕ) → 0 < q .produce → 1 ≤ k → q .produce * d ≡ q .consume * e → earlier q (k + e) ≡ earlier q k + d

@@ -148,7 +148,11 @@ reports =
     ∷ (refusalLine 4294967295 4294967295 (replicate 30 7), 0 ∷ 0 ∷ 30 ∷ text "refused,4294967295,4294967295\n")
     -- a report begins with the whole first line, which is these bytes
     ∷ (headed heading, 1 ∷ [])
-    ∷ (headed (113 ∷ 117 ∷ 101 ∷ 117 ∷ 101 ∷ 44 ∷ 120 ∷ 44 ∷ 121 ∷ 44 ∷ 109 ∷ 105 ∷ 110 ∷ 105 ∷ 109 ∷ 117 ∷ 109 ∷ 44 ∷ 99 ∷ 97 ∷ 112 ∷ 97 ∷ 99 ∷ 105 ∷ 116 ∷ 121 ∷ 44 ∷ 109 ∷ 97 ∷ 114 ∷ 103 ∷ 105 ∷ 110 ∷ 10 ∷ 0 ∷ []), 1 ∷ [])
+    ∷ (
+      headed (113 ∷ 117 ∷ 101 ∷ 117 ∷ 101 ∷ 44 ∷ 120 ∷ 44 ∷ 121 ∷ 44 ∷ 109 ∷ 105 ∷ 110 ∷ 105 ∷ 109 ∷ 117 ∷ 109 ∷ 44
+          ∷ 99 ∷ 97 ∷ 112 ∷ 97 ∷ 99 ∷ 105 ∷ 116 ∷ 121 ∷ 44 ∷ 109 ∷ 97 ∷ 114 ∷ 103 ∷ 105 ∷ 110 ∷ 10 ∷ 0 ∷ []),
+      1 ∷ [],
+    )
     ∷ (headed (text "queue,x,y,minimum,capacity,margin"), 0 ∷ [])
     ∷ (headed (text "queue,y,x,minimum,capacity,margin\n"), 0 ∷ [])
     ∷ (headed [], 0 ∷ [])

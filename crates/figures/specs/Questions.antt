@@ -107,7 +107,8 @@ said b = cond b 1 0
 -- what the call answers; C is told the outcome of a tick and of a deadline run as kind, tick, and queue or node, behind the place, and a tick's state is what is left in the
 -- place of the one that was lent
 unfoldable pub answerTo : Question → List ℕ
-unfolding chainNumbers analysed stateNumbers writes wordAt rowAt readAnswer packed writeRefusal factoryAnswer reportRefusal refusalText begins analyseAnswer runAnswer freshAnswer fireAnswer immediateAnswer deadlineAnswer tickAnswer deadlineRunAnswer
+unfolding chainNumbers analysed stateNumbers writes wordAt rowAt readAnswer packed writeRefusal factoryAnswer reportRefusal refusalText
+    begins analyseAnswer runAnswer freshAnswer fireAnswer immediateAnswer deadlineAnswer tickAnswer deadlineRunAnswer
 answerTo (read f) = madeChain (readAnswer f)
 answerTo (write c o) = writes (writeRefusal c (length o)) (packed c) o
 answerTo (factory k) = madeChain (factoryAnswer k)
@@ -132,7 +133,8 @@ output-answers : {r : Refusal} {t o p : List ℕ} {a : LengthAnswer} → Output 
 unfolding writes
 output-answers {r} {t} {o} {p} {a} w = ap₂ wrote (w .answer) (w .bytes) ∙ by (eqb (r .number) 0)
   where
-    by : (b : Bool) → wrote (record { number = r .number; place = r .place; length = cond b (length t) 0 }) (cond b (t ++ drop (length t) o) o) ≡ r .number ∷ r .place ∷ cond b (length t ∷ (t ++ drop (length t) o)) (0 ∷ o)
+    by : (b : Bool) → wrote (record { number = r .number; place = r .place; length = cond b (length t) 0 }) (cond b (t ++ drop (length t) o) o)
+        ≡ r .number ∷ r .place ∷ cond b (length t ∷ (t ++ drop (length t) o)) (0 ∷ o)
     by true = refl
     by false = refl
 

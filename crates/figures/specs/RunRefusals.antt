@@ -112,7 +112,10 @@ runOutcomes =
     -- N_1 and N_2 have no deadline; N_2 alone; N_2 is not over threshold
     ∷ tickUndated (along (row 1 1 1 10 0) (row 1 1 1 10 0)) (run 1 (4294967294 ∷ 4294967293 ∷ 4294967292 ∷ []) (1 ∷ 1 ∷ []) []) 1 1
     ∷ tickUndated (along (row 1 1 1 1 0) (row 1 1 1 1000000 0)) (run 1 (4294967000 ∷ 4294966999 ∷ 4294966998 ∷ []) (1 ∷ 1 ∷ []) []) 1 2
-    ∷ (tick (along (row 1 1 1 1 0) (row 1 2 1 1000000 0)) (run 1 (4294967000 ∷ 4294966999 ∷ 4294966998 ∷ []) (1 ∷ 1 ∷ []) []), cleanAt (run 2 (4294967000 ∷ 4294967000 ∷ 4294966998 ∷ []) (0 ∷ 2 ∷ []) []))
+    ∷ (
+      tick (along (row 1 1 1 1 0) (row 1 2 1 1000000 0)) (run 1 (4294967000 ∷ 4294966999 ∷ 4294966998 ∷ []) (1 ∷ 1 ∷ []) []),
+      cleanAt (run 2 (4294967000 ∷ 4294967000 ∷ 4294966998 ∷ []) (0 ∷ 2 ∷ []) []),
+    )
     -- an overflow of the source comes before 13 of N_2
     ∷ tickOverflows (along (row 1 1 1 1 0) (row 1 1 1 1000000 0)) (run 0 (4294967000 ∷ 4294966999 ∷ 4294966998 ∷ []) (1 ∷ 1 ∷ []) []) 0 0
     ∷ []

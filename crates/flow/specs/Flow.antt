@@ -186,7 +186,8 @@ module _ {l : List ℕ} {c : Chain} {s : Run} (x : Shows l c s) (j : ℕ) (k : F
 
   input-taken : consumeIn half j ≡ rowOf c j .consume
   input-taken =
-      put-other (counted l (suc j)) (suc j) (32 + j) (λ e. omega (arith, x .few, k .may .node)) ∙ counted-other l (suc j) (32 + j) (λ e. omega (arith, x .few, k .may .node)) ∙ x .takes j (k .may .node)
+      put-other (counted l (suc j)) (suc j) (32 + j) (λ e. omega (arith, x .few, k .may .node))
+      ∙ counted-other l (suc j) (32 + j) (λ e. omega (arith, x .few, k .may .node)) ∙ x .takes j (k .may .node)
 
   input-enough : rowOf c j .consume ≤ heldAt s j
   input-enough = over-enough (k .chain .chain) s j (k .may .node) (k .may .over)

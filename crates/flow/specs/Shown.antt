@@ -142,6 +142,7 @@ module _ {l : List ℕ} {i : ℕ} {r : Run} (p : Part l i r) where
   part-shown h =
       let e : i ≡ 16 = omega (arith, p .reach) in
       same-run (p .clock)
-      (slots-more (λ j. countIn l j) 0 17 16 (r .counts) (countIn l 16) (omega arith) (subst (λ (m : ℕ). r .counts ≡ slots (λ j. countIn l j) 0 17 m) e (p .counts)) refl ∙ slots-whole (λ j. countIn l j) 0 17)
+      (slots-more (λ j. countIn l j) 0 17 16 (r .counts) (countIn l 16) (omega arith)
+      (subst (λ (m : ℕ). r .counts ≡ slots (λ j. countIn l j) 0 17 m) e (p .counts)) refl ∙ slots-whole (λ j. countIn l j) 0 17)
       (subst (λ (m : ℕ). r .held ≡ slots (λ j. heldIn l j) 0 16 m) e (p .held) ∙ slots-whole (λ j. heldIn l j) 0 16)
       (p .done)

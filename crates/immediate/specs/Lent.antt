@@ -165,7 +165,15 @@ pub driving-none : (k : ℕ) (l : List ℕ) → Driving k l 0 l
 driving-none k l = record {
   gives = λ c b x. record {
     most = omega arith;
-    state = record { run = freshRun c; shows = x; is = record { held = record { reached = reached-fresh (b .accepted .chain); tight = fresh-tight (b .accepted .chain) }; calm = fresh-calm (b .accepted .chain) 0; count = fresh-count c 0 } };
+    state = record {
+      run = freshRun c;
+      shows = x;
+      is = record {
+        held = record { reached = reached-fresh (b .accepted .chain); tight = fresh-tight (b .accepted .chain) };
+        calm = fresh-calm (b .accepted .chain) 0;
+        count = fresh-count c 0;
+      };
+    };
   };
 }
 

@@ -62,7 +62,8 @@ module _ {c d : Chain} (a : AlikeChains c d) where
     wide = r .wide;
     deep = r .deep;
     balance = λ j l. subst (λ (q : Queue). start q + q .produce * countAt s j ≡ heldAt s j + q .consume * countAt s (suc j)) (a .rows j (inside j l)) (r .balance j (inside j l));
-    owed = λ j l. subst (λ (q : Queue). 0 < countAt s (suc j) → q .consume * countAt s (suc j) + q .threshold ≤ start q + q .produce * countAt s j + q .consume) (a .rows j (inside j l)) (r .owed j (inside j l));
+    owed = λ j l. subst (λ (q : Queue). 0 < countAt s (suc j) → q .consume * countAt s (suc j) + q .threshold ≤ start q + q .produce * countAt s j + q .consume)
+        (a .rows j (inside j l)) (r .owed j (inside j l));
     counts-past = λ j l. r .counts-past j (omega (arith, a .n));
     held-past = λ j l. r .held-past j (omega (arith, a .n));
   }

@@ -135,7 +135,8 @@ module _ {k : ℕ} {c : Chain} {s : Run} {q : ℕ} (a : SettleAsk k c s q) where
     short o =
         let row = a .bounds .accepted .chain .rows q (a .queue) in
         let tokens : rowOf c q .threshold + rowOf c q .consume * countAt r (suc q) ≤ start (rowOf c q) + rowOf c q .produce * countAt r q = omega (arith, x .held .reached .balance q (a .queue), o) in
-        let now : suc (countAt r (suc q)) ≤ fed c q (countAt r q) = fires-reach (rowOf c q .threshold) (rowOf c q .consume) (start (rowOf c q) + rowOf c q .produce * countAt r q) (countAt r (suc q)) (row .consume .0) .1 tokens in
+        let now : suc (countAt r (suc q)) ≤ fed c q (countAt r q) =
+        fires-reach (rowOf c q .threshold) (rowOf c q .consume) (start (rowOf c q) + rowOf c q .produce * countAt r q) (countAt r (suc q)) (row .consume .0) .1 tokens in
         omega (arith, now, fed-mono c q (countAt r q) (F c k q) (omega (arith, x .same q (omega arith), a .below)))
 
     pub settle-fire : rowOf c q .threshold ≤ heldAt r q → FireAsk k c r (suc q)
@@ -145,7 +146,8 @@ module _ {k : ℕ} {c : Chain} {s : Run} {q : ℕ} (a : SettleAsk k c s q) where
     settle-more d = record { held = d .held; calm = d .calm; same = λ j l. d .same j (omega arith) ∙ x .same j l }
 
     pub settle-less : {u : Run} → FireDone c r (suc q) u → heldAt u q < heldAt r q
-    settle-less {u} d = less _ _ _ _ _ _ _ _ _ (x .held .reached .balance q (a .queue)) (d .held .reached .balance q (a .queue)) (d .same q (omega arith)) (d .once) (a .bounds .accepted .chain .rows q (a .queue) .consume .0)
+    settle-less {u} d = less _ _ _ _ _ _ _ _ _ (x .held .reached .balance q (a .queue)) (d .held .reached .balance q (a .queue))
+        (d .same q (omega arith)) (d .once) (a .bounds .accepted .chain .rows q (a .queue) .consume .0)
       where
         less : (s p c N M x N′ M′ x′ : ℕ) → s + p * N ≡ x + c * M → s + p * N′ ≡ x′ + c * M′ → N′ ≡ N → M′ ≡ M + 1 → 1 ≤ c → x′ < x
         less s p c N M x N′ M′ x′ e e′ f g l = omega (arith, e, rw (f, g) at e′)

@@ -185,7 +185,8 @@ module _ (c : Chain) (T : ℕ) (ok : deadlineRunAnswer c T .number ≡ 0) where
           ∙ says
 
   -- what each clean tick hands on, from a fresh start, holds of a clean run
-  pub along : (P : ℕ → Type 0) → P 0 → ((t : ℕ) → t < T → CleanStep c t (deadlineRunAnswer c t .run) (deadlineRunAnswer c (suc t) .run) → P t → P (suc t)) → deadlineRunAnswer c T .outcome ≡ Clean → P T
+  pub along : (P : ℕ → Type 0) → P 0 → ((t : ℕ) → t < T → CleanStep c t (deadlineRunAnswer c t .run) (deadlineRunAnswer c (suc t) .run) → P t → P (suc t))
+      → deadlineRunAnswer c T .outcome ≡ Clean → P T
   along P none more = to T (le-refl T)
     where
       to : (t : ℕ) → t ≤ T → deadlineRunAnswer c t .outcome ≡ Clean → P t

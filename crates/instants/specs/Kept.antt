@@ -73,7 +73,12 @@ module _ {c : Chain} {s : Run} (r : Running c s) (i : ℕ) (o : Over c s i) (m :
   filled j l = by-cases (ℕ-discrete j i)
       (λ e. rw (e, held-output c s i (omega arith) (omega (arith, r .whole .held, sound .count .1))) (m (omega arith)))
       (λ ne. by-cases (ℕ-discrete (suc j) i)
-      (λ e. omega (arith, subst (λ (k : ℕ). heldAt (fired c s k) j + rowOf c j .consume ≡ heldAt s j) e (held-input c s j (omega (arith, r .whole .held, sound .count .1)) (enough j l (sym e))), r .state j l .0 .1))
+      (λ e. omega (
+        arith,
+        subst (λ (k : ℕ). heldAt (fired c s k) j + rowOf c j .consume ≡ heldAt s j) e
+            (held-input c s j (omega (arith, r .whole .held, sound .count .1)) (enough j l (sym e))),
+        r .state j l .0 .1,
+      ))
       (λ ne′. rw (held-other c s i j ne ne′) (r .state j l .0 .1)))
 
   pub fired-running : Running c (fired c s i)
@@ -96,7 +101,8 @@ pub unclean-undated : {t i : ℕ} → NoDeadline t i ≡ Clean → ⊥
 unclean-undated e = let z : _≡_ {A = ℕ} 2 0 = ap kindOf e in absurd (omega arith)
 
 -- the source's step: its production does not fit, or it fires, or it rests
-pub source-cases : (c : Chain) (s : Run) (P : Ticked → Type 0) → (cramped c s 0 ≡ true → P (overflowed s (s .clock) 0)) → (cramped c s 0 ≡ false → P (clean (fired c s 0))) → P (clean s) → P (sourced c s)
+pub source-cases : (c : Chain) (s : Run) (P : Ticked → Type 0) → (cramped c s 0 ≡ true → P (overflowed s (s .clock) 0))
+    → (cramped c s 0 ≡ false → P (clean (fired c s 0))) → P (clean s) → P (sourced c s)
 unfolding sourced
 source-cases c s P spills fires rests = by (divides (c .period) (s .clock)) (cramped c s 0) refl
   where
@@ -106,7 +112,8 @@ source-cases c s P spills fires rests = by (divides (c .period) (s .clock)) (cra
     by false x e = rests
 
 -- the effect of N_(j+1)'s firing: its production does not fit, or it takes effect
-pub finish-cases : (c : Chain) (w : Run) (j : ℕ) (P : Ticked → Type 0) → (cramped c w (suc j) ≡ true → P (overflowed w (w .clock) (suc j))) → (cramped c w (suc j) ≡ false → P (clean (fired c (withDone w j 0) (suc j))))
+pub finish-cases : (c : Chain) (w : Run) (j : ℕ) (P : Ticked → Type 0) → (cramped c w (suc j) ≡ true → P (overflowed w (w .clock) (suc j)))
+    → (cramped c w (suc j) ≡ false → P (clean (fired c (withDone w j 0) (suc j))))
     → P (finish c w (suc j))
 unfolding finish
 finish-cases c w j P spills fires = by (cramped c w (suc j)) refl
@@ -368,7 +375,8 @@ module _ {c : Chain} {s u : Run} (k : SourceStep c s u) where
       let e : finished c (worked u (suc j)) ≡ finish c (worked u (suc j)) (suc j) = works-ends (k .running) j low all in
       subst (λ (x : Ticked). TickStep c s (x .run)) (sym e) (ends j low all (o j refl) (ap (λ (x : Ticked). x .outcome) (sym e) ∙ h)))
       (λ ne.
-      let less : (m : ℕ) → m < c .n → suc j ≡ suc m → doneAt u m + 1 < workOf c m = λ m f e. let z : j ≡ m = omega arith in subst (λ (x : ℕ). doneAt u x + 1 < workOf c x) z (omega (arith, ne, k .running .state j low .1)) in
+      let less : (m : ℕ) → m < c .n → suc j ≡ suc m → doneAt u m + 1 < workOf c m =
+      λ m f e. let z : j ≡ m = omega arith in subst (λ (x : ℕ). doneAt u x + 1 < workOf c x) z (omega (arith, ne, k .running .state j low .1)) in
       let on : finished c (worked u (suc j)) ≡ clean (worked u (suc j)) = works-on (k .running) (suc j) less in
       subst (λ (x : Ticked). TickStep c s (x .run)) (sym on) (rests (suc j) (works-running (k .running) (suc j) less)))
 

@@ -135,7 +135,9 @@ module _ {c : Chain} {u : Run} (r : Running c u) where
         counts = λ m ne. count-other c cleared (suc j) m ne ∙ same-count m;
         output = λ h. held-output c cleared (suc j) h (omega (arith, k .whole .held, r .chain .chain .count .1)) ∙ ap (λ (x : ℕ). x + rowOf c (suc j) .produce) (same-held (suc j));
         input = held-input c cleared j (omega (arith, k .whole .held, slot)) enough ∙ same-held j;
-        held = λ m ne past. by-cases (ℕ-discrete m (suc j)) (λ e. held-sink c cleared (suc j) m (past e) (λ f. omega arith) ∙ same-held m) (λ n. held-other c cleared (suc j) m n (λ f. ne (omega arith)) ∙ same-held m);
+        held = λ m ne past. by-cases (ℕ-discrete m (suc j))
+            (λ e. held-sink c cleared (suc j) m (past e) (λ f. omega arith) ∙ same-held m)
+            (λ n. held-other c cleared (suc j) m n (λ f. ne (omega arith)) ∙ same-held m);
         done = getD-set-same (worked u (suc j) .done) j 0 0 (omega (arith, k .whole .done, length-set (worked u (suc j) .done) j 0, slot));
       })
 
@@ -231,7 +233,10 @@ work-source {c} {u} {t} {w} k = at w refl
 module _ {c : Chain} {s t : Run} (k : TickOnce c s t) where
   -- "the source fires if y divides t"
   pub once-counts : (countAt t 0 ≡ countAt s 0 + 1) ↔ Due c s
-  once-counts = (λ e. by-cases (decDvd (c .period) (s .clock)) (λ d. d) (λ n. absurd (omega (arith, e, work-source (k .work), k .source .rests n .0))), λ d. work-source (k .work) ∙ k .source .fires d .0)
+  once-counts = (
+    λ e. by-cases (decDvd (c .period) (s .clock)) (λ d. d) (λ n. absurd (omega (arith, e, work-source (k .work), k .source .rests n .0))),
+    λ d. work-source (k .work) ∙ k .source .fires d .0,
+  )
 
   -- and else does not
   pub once-keeps : (countAt t 0 ≡ countAt s 0) ↔ (Due c s → ⊥)

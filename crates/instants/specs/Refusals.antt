@@ -180,7 +180,8 @@ module _ (c : Chain) (s : Run) where
   -- and with both of 9 apart
   pub tick-numbered : Numbered tickNumbers (tickChecks c s)
   unfolding Numbered
-  tick-numbered = numbered-append runNumbers (17 ∷ 9 ∷ 9 ∷ []) (runChecks c) (stateCheck c s ∷ clockCheck s ∷ spentCheck c s ∷ []) (run-numbered c) (state-only c s, (clock-only s, (spent-only c s, tt)))
+  tick-numbered = numbered-append runNumbers (17 ∷ 9 ∷ 9 ∷ []) (runChecks c) (stateCheck c s ∷ clockCheck s ∷ spentCheck c s ∷ [])
+      (run-numbered c) (state-only c s, (clock-only s, (spent-only c s, tt)))
 
   tick-at : (k L : ℕ) → k < 8 → (tickRefusal c s ≡ refused (getD (runNumbers ++ ownNumbers) k 0) L) ↔ (Silents (take k joined) × (getD joined k fine ≡ refused (getD (runNumbers ++ ownNumbers) k 0) L))
   unfolding joined

@@ -146,7 +146,10 @@ tick-total {c} {s} {t} k = ⊎-elim busy idle (some-over c (k .after))
     before = source-total (k .source)
 
     busy : SomeOver c (k .after) → (Waits c s × (total c t ≡ total c s + 1)) ⊎ ((Waits c s → ⊥) × (total c t ≡ total c s))
-    busy f = inl (record { after = k .after; source = k .source; some = f }, omega (arith, one-more (k .work) (k .works .node) (k .works .some (suc (f .queue)) (zero-lt-suc (f .queue)) (f .node) (f .over)), before))
+    busy f = inl (
+      record { after = k .after; source = k .source; some = f },
+      omega (arith, one-more (k .work) (k .works .node) (k .works .some (suc (f .queue)) (zero-lt-suc (f .queue)) (f .node) (f .over)), before),
+    )
 
     none : (SomeOver c (k .after) → ⊥) → (w : ℕ) → k .worker ≡ w → k .worker ≡ 0
     none n zero e = e

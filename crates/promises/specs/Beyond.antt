@@ -90,7 +90,8 @@ module _ (c : Chain) (T : ℕ) (ran : DeadlineRuns c T) where
 
   -- "each queue holds what its producer's firings put in less what its consumer's took out"
   pub run-balance : (j : ℕ) → j < c .n → start (rowOf c j) + pOf c j * times j (firings c T) ≡ heldAt (deadlineRunAnswer c T .run) j + cOf c j * times (suc j) (firings c T)
-  run-balance j l = subst (λ (s : Run). start (rowOf c j) + pOf c j * times j (firings c T) ≡ heldAt s j + cOf c j * times (suc j) (firings c T)) run-state (demand.balance c (firings c T) run-fires j l)
+  run-balance j l = subst (λ (s : Run). start (rowOf c j) + pOf c j * times j (firings c T) ≡ heldAt s j + cOf c j * times (suc j) (firings c T)) run-state
+      (demand.balance c (firings c T) run-fires j l)
 
   -- "in no permitted order can a producer fire as often as 01 names for its queue unless that queue has held at least the minimum"
   pub run-naming : (j : ℕ) → j < c .n → line c j .by ≤ countAt (deadlineRunAnswer c T .run) j → Sometime c (firings c T) (λ s. line c j .minimum ≤ heldAt s j)

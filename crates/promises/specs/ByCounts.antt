@@ -156,8 +156,10 @@ module _ (c : Chain) (ok : Accepts c) where
     where
       is : ByRule c (schedule c k) × ((times 0 (schedule c k) ≡ k) × OnlySource c (schedule c k))
       is =
-          let f : Follows c (freshRun c) (schedule c k) = rule (known .chain) k in
-          (follows-rule known (schedule c k) f, (source (known .chain) k, calm-only known (schedule c k) (follows-reached known (freshRun c) (schedule c k) (reached-fresh (known .chain)) f) (ends (known .chain) k)))
+          let f : Follows c (freshRun c) (schedule c k) = rule (known .chain) k in (
+            follows-rule known (schedule c k) f,
+            (source (known .chain) k, calm-only known (schedule c k) (follows-reached known (freshRun c) (schedule c k) (reached-fresh (known .chain)) f) (ends (known .chain) k)),
+          )
 
       only : ByRule c h × ((times 0 h ≡ k) × OnlySource c h) → h ≡ schedule c k
       only p = unique (known .chain) h (rule-follows known h (p .0)) (only-calm known h (each-reached known h (rule-each known h (p .0))) (p .1 .1)) ∙ ap (schedule c) (p .1 .0)
@@ -168,7 +170,8 @@ module _ (c : Chain) (ok : Accepts c) where
 
   -- "Exact counts: F_0 = k; F_(i+1) is 0 while p×F_i is below τ, else (p×F_i − τ)/c rounded down, plus 1 (004, Lemma 5.1)", F_i being how often N_i stands in the order
   pub exact-count : {k : ℕ} {h : List ℕ} → Exhausted c k h
-      → (times 0 h ≡ k) × ((i : ℕ) → i < c .n → (pOf c i * times i h < τOf c i → times (suc i) h ≡ 0) × (τOf c i ≤ pOf c i * times i h → times (suc i) h ≡ (pOf c i * times i h - τOf c i) / cOf c i + 1))
+      → (times 0 h ≡ k)
+      × ((i : ℕ) → i < c .n → (pOf c i * times i h < τOf c i → times (suc i) h ≡ 0) × (τOf c i ≤ pOf c i * times i h → times (suc i) h ≡ (pOf c i * times i h - τOf c i) / cOf c i + 1))
   exact-count {k} {h} x = (
     x .source,
     λ i l.

@@ -61,12 +61,14 @@ unfolding readAnswer chains.answered readRefusal
 read-numbers f = in-order _ _ (read-numbered f) _ _ refl
 
 -- "one of the listed refusal numbers with its place, in the listed order": a chain that is written
-pub write-numbers : (c : Chain) (o p : List ℕ) (a : LengthAnswer) → Output (writeRefusal c (length o)) (packed c) o p a → InOrder (2 ∷ 4 ∷ 5 ∷ 10 ∷ []) (writeChecks c (length o)) (a .number) (a .place)
+pub write-numbers : (c : Chain) (o p : List ℕ) (a : LengthAnswer) → Output (writeRefusal c (length o)) (packed c) o p a
+    → InOrder (2 ∷ 4 ∷ 5 ∷ 10 ∷ []) (writeChecks c (length o)) (a .number) (a .place)
 unfolding writeRefusal
 write-numbers c o p a w = in-order _ _ (write-numbered c (length o)) _ _ (ap (λ (x : LengthAnswer). refused (x .number) (x .place)) (w .answer))
 
 -- "one of the listed refusal numbers with its place, in the listed order": a file that is reported on
-pub report-numbers : (f o p : List ℕ) (a : LengthAnswer) → Output (reportRefusal f (length o)) (reportText f) o p a → InOrder (1 ∷ 2 ∷ 3 ∷ 4 ∷ 5 ∷ 6 ∷ 7 ∷ 10 ∷ []) (reportChecks f (length o)) (a .number) (a .place)
+pub report-numbers : (f o p : List ℕ) (a : LengthAnswer) → Output (reportRefusal f (length o)) (reportText f) o p a
+    → InOrder (1 ∷ 2 ∷ 3 ∷ 4 ∷ 5 ∷ 6 ∷ 7 ∷ 10 ∷ []) (reportChecks f (length o)) (a .number) (a .place)
 unfolding reportRefusal
 report-numbers f o p a w = in-order _ _ (report-numbered f (length o)) _ _ (ap (λ (x : LengthAnswer). refused (x .number) (x .place)) (w .answer))
 
@@ -74,7 +76,8 @@ report-numbers f o p a w = in-order _ _ (report-numbered f (length o)) _ _ (ap (
 pub line-numbers : (k L : ℕ) (o p : List ℕ) (a : LengthAnswer) → Output (roomCheck (length (refusalText k L)) (length o)) (refusalText k L) o p a
     → InOrder (10 ∷ []) (roomCheck (length (refusalText k L)) (length o) ∷ []) (a .number) (a .place)
 unfolding Numbered
-line-numbers k L o p a w = in-order _ _ (room-only _ (length o), tt) _ _ (ap (λ (x : LengthAnswer). refused (x .number) (x .place)) (w .answer) ∙ test-alone 10 (length (refusalText k L)) (λ e. omega arith) (ltb (length o) (length (refusalText k L))))
+line-numbers k L o p a w = in-order _ _ (room-only _ (length o), tt) _ _ (ap (λ (x : LengthAnswer). refused (x .number) (x .place)) (w .answer)
+    ∙ test-alone 10 (length (refusalText k L)) (λ e. omega arith) (ltb (length o) (length (refusalText k L))))
 
 -- "one of the listed refusal numbers with its place, in the listed order": a number that the factory is asked
 pub factory-numbers : (k : ℕ) → InOrder (14 ∷ []) (factoryCheck k ∷ []) (factoryAnswer k .number) (factoryAnswer k .place)
@@ -248,7 +251,8 @@ module _ {c d : Chain} (a : AlikeChains c d) where
 
   module _ {s t : Run} (r : AlikeRuns (c .n) s t) (w : AllSlots s) (v : AllSlots t) where
     -- a state that is fired in
-    pub fire-past : (i : ℕ) → (refused (fireAnswer c s i .number) (fireAnswer c s i .place) ≡ refused (fireAnswer d t i .number) (fireAnswer d t i .place)) × AlikeRuns (c .n) (fireAnswer c s i .run) (fireAnswer d t i .run)
+    pub fire-past : (i : ℕ) → (refused (fireAnswer c s i .number) (fireAnswer c s i .place) ≡ refused (fireAnswer d t i .number) (fireAnswer d t i .place))
+        × AlikeRuns (c .n) (fireAnswer c s i .run) (fireAnswer d t i .run)
     unfolding fireAnswer runs.answered
     fire-past i = (fire-alike a r i, runs.past-n a r (whole w) (whole v) i)
 

@@ -213,7 +213,10 @@ unfolding deadlineAnswer answeredDue deadline earlier
 deadline-next c i k asked =
     let p = deadline-accepts c (suc i) k .0 asked in
     let same : earlier (rowOf c i) k ≡ indexBefore c i k = rw (capacity-is c (p .0 .0) i (p .1 .0 .0)) in
-    let too = deadline-accepts c i (indexBefore c i k) .1 (p .0, ((omega (arith, p .1 .0 .0), rw (← same) (earlier-some (rowOf c i) k)), λ j l. rw (← same, ← index-down c i k j l) (p .1 .1 j (omega arith)))) in
+    let too = deadline-accepts c i (indexBefore c i k) .1 (
+      p .0,
+      ((omega (arith, p .1 .0 .0), rw (← same) (earlier-some (rowOf c i) k)), λ j l. rw (← same, ← index-down c i k j l) (p .1 .1 j (omega arith))),
+    ) in
     (too, deadline-due c (suc i) k asked ∙ ap (deadline c i) same ∙ sym (deadline-due c i (indexBefore c i k) too))
 
 -- 01's "A fresh start begins a new history": it is accepted exactly when the chain is

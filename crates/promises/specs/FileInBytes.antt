@@ -207,15 +207,26 @@ module _ (f : List ℕ) where
 
       back : Placed f × Apart → Silents (lengthCheck f ∷ countCheck (countOf f) ∷ fileOffsets f ∷ [])
       back h =
-          let p = h .0 in
-          (length-silent f .1 (p .long, p .total), (count-silent (countOf f) .1 (p .count), (first-silent tests .1 (good 8 _ _ .1 (p .queues), (good 12 _ _ .1 (p .nodes), (apart .1 (h .1), tt))), tt)))
+          let p = h .0 in (
+            length-silent f .1 (p .long, p .total),
+            (count-silent (countOf f) .1 (p .count), (first-silent tests .1 (good 8 _ _ .1 (p .queues), (good 12 _ _ .1 (p .nodes), (apart .1 (h .1), tt))), tt)),
+          )
 
   -- what the file says by the definition is laid in it by its bytes
   laid-there : Placed f → Apart → Laid f (queuesAt f) (nodesAt f) (chainOf f)
   unfolding chainOf tab
   laid-there p apart = record {
     count = p .count;
-    header = record { long = p .long; words = record { count = word 0 (omega arith); period = word 4 (omega arith); queues = word 8 (omega arith); nodes = word 12 (omega arith); total = word-in f 16 (length f) (omega (arith, p .long .0)) (p .total) } };
+    header = record {
+      long = p .long;
+      words = record {
+        count = word 0 (omega arith);
+        period = word 4 (omega arith);
+        queues = word 8 (omega arith);
+        nodes = word 12 (omega arith);
+        total = word-in f 16 (length f) (omega (arith, p .long .0)) (p .total);
+      };
+    };
     stands = record {
       queues = stands-is (length f) (queuesAt f) (20 * countOf f) (omega (arith, p .count .0)) .0 (p .queues);
       nodes = stands-is (length f) (nodesAt f) (4 * countOf f) (omega (arith, p .count .0)) .0 (p .nodes);
@@ -233,7 +244,13 @@ module _ (f : List ℕ) where
           let o : ℕ = queuesAt f + 20 * i in
           let ends : o + 20 ≤ length f = omega (arith, p .queues .1 .1) in
           rw (slot-used (λ j. rowAt f (queuesAt f + 20 * j)) none 16 (countOf f) i none (omega (arith, p .count .1)) l, row-there f o ends)
-          (record { produce = word-in f o _ (omega arith) refl; threshold = word-in f (o + 4) _ (omega arith) refl; consume = word-in f (o + 8) _ (omega arith) refl; capacity = word-in f (o + 12) _ (omega arith) refl; reserved = word-in f (o + 16) _ (omega arith) refl })
+          (record {
+            produce = word-in f o _ (omega arith) refl;
+            threshold = word-in f (o + 4) _ (omega arith) refl;
+            consume = word-in f (o + 8) _ (omega arith) refl;
+            capacity = word-in f (o + 12) _ (omega arith) refl;
+            reserved = word-in f (o + 16) _ (omega arith) refl;
+          })
 
       node : (i : ℕ) → i < countOf f → Word f (nodesAt f + 4 * i) (workOf (chainOf f) i)
       node i l = word-in f (nodesAt f + 4 * i) _ (omega (arith, p .nodes .1 .1)) (sym (slot-used (λ j. wordAt f (nodesAt f + 4 * j)) 0 16 (countOf f) i 0 (omega (arith, p .count .1)) l))
@@ -326,13 +343,24 @@ header-known f = (out, back)
         let high : 4096 < length f → ⊥ = λ l. n (wrong (inr (inl l))) in
         let long : 20 ≤ length f = omega (arith, low) in
         let word : (at : ℕ) → at + 4 ≤ 20 → Word f at (wordAt f at) = λ at l. word-in f at (wordAt f at) (omega arith) refl in
-        let total : Word f 16 (length f) = by-cases (ℕ-discrete (wordAt f 16) (length f)) (λ e. word-in f 16 (length f) (omega arith) e) (λ ne. absurd (n (wrong (inr (inr (λ k. ne (word-out k))))))) in
+        let total : Word f 16 (length f) = by-cases (ℕ-discrete (wordAt f 16) (length f))
+        (λ e. word-in f 16 (length f) (omega arith) e)
+        (λ ne. absurd (n (wrong (inr (inr (λ k. ne (word-out k))))))) in
         record {
           n = wordAt f 0;
           y = wordAt f 4;
           q = wordAt f 8;
           w = wordAt f 12;
-          is = record { long = (long, omega (arith, high)); words = record { count = word 0 (omega arith); period = word 4 (omega arith); queues = word 8 (omega arith); nodes = word 12 (omega arith); total = total } };
+          is = record {
+            long = (long, omega (arith, high));
+            words = record {
+              count = word 0 (omega arith);
+              period = word 4 (omega arith);
+              queues = word 8 (omega arith);
+              nodes = word 12 (omega arith);
+              total = total;
+            };
+          };
         }
 
     back : HasHeader f → readAnswer f .number ≢ 1
@@ -347,7 +375,8 @@ module _ {f : List ℕ} {n y q w : ℕ} (h : Headed f n y q w) where
   -- 2, "n is 0 or above 16", place 0
   pub read-count : (L : ℕ) → ((readAnswer f .number ≡ 2) × (readAnswer f .place ≡ L)) ↔ (WrongCount n × (L ≡ 0))
   unfolding Silents
-  read-count L = rw (← word-out (h .words .count)) (Iff·trans (read-says f 2 L) (Iff·trans (read-2 f L) (Iff·trans (λ k. k .1, λ k. ((long-silent, tt), k)) (Iff·and (count-wrong (countOf f)) Iff·rfl))))
+  read-count L = rw (← word-out (h .words .count))
+      (Iff·trans (read-says f 2 L) (Iff·trans (read-2 f L) (Iff·trans (λ k. k .1, λ k. ((long-silent, tt), k)) (Iff·and (count-wrong (countOf f)) Iff·rfl))))
 
   module _ (count : RightCount n) where
     -- the tables by their bytes
@@ -398,10 +427,15 @@ tables-known f = (λ k. out (header-known f .0 (k .0)) (k .1 .0) (k .1 .1), back
         let high : 16 < h .n → ⊥ = λ l. two (read-count (h .is) 0 .1 (inr l, refl) .0) in
         let count : RightCount (h .n) = (omega (arith, low), omega (arith, high)) in
         let k = h .is .words in
-        let queues : GoodTable (length f) (h .q) (h .q + 20 * h .n) = ⊎-elim (λ b. absurd (three (read-offsets (h .is) count 8 .1 (queues-wrong (λ t. bad-not _ _ _ .0 b (queues-stand (h .is) count .1 t)) refl) .0))) (λ g. g) (bad-or-good _ _ _) in
+        let queues : GoodTable (length f) (h .q) (h .q + 20 * h .n) =
+        ⊎-elim (λ b. absurd (three (read-offsets (h .is) count 8 .1 (queues-wrong (λ t. bad-not _ _ _ .0 b (queues-stand (h .is) count .1 t)) refl) .0)))
+        (λ g. g) (bad-or-good _ _ _) in
         let t = queues-stand (h .is) count .0 queues in
-        let nodes : GoodTable (length f) (h .w) (h .w + 4 * h .n) = ⊎-elim (λ b. absurd (three (read-offsets (h .is) count 12 .1 (nodes-wrong t (λ t. bad-not _ _ _ .0 b (nodes-stand (h .is) count .1 t)) refl) .0))) (λ g. g) (bad-or-good _ _ _) in
-        let apart : Shared (h .q) (h .q + 20 * h .n) (h .w) (h .w + 4 * h .n) → ⊥ = λ s. three (read-offsets (h .is) count 12 .1 (overlapping t (record { byte = s .byte; queues = s .in-queues; nodes = s .in-nodes }) refl) .0) in
+        let nodes : GoodTable (length f) (h .w) (h .w + 4 * h .n) =
+        ⊎-elim (λ b. absurd (three (read-offsets (h .is) count 12 .1 (nodes-wrong t (λ t. bad-not _ _ _ .0 b (nodes-stand (h .is) count .1 t)) refl) .0)))
+        (λ g. g) (bad-or-good _ _ _) in
+        let apart : Shared (h .q) (h .q + 20 * h .n) (h .w) (h .w + 4 * h .n) → ⊥ =
+        λ s. three (read-offsets (h .is) count 12 .1 (overlapping t (record { byte = s .byte; queues = s .in-queues; nodes = s .in-nodes }) refl) .0) in
         let p : Placed f = record {
           count = rw (word-out (k .count)) count;
           long = h .is .long;

@@ -70,10 +70,13 @@ unfolding sizeRefusal
 sizes-alike f g room e = ap (λ (c : Chain). orElse (first (sizeChecks c)) (roomCheck (length (textOf (analysisOf c))) room)) e
 
 -- and files that are read alike are reported on alike, with the same answer and the same bytes
-pub reports-alike : (f g o p v : List ℕ) (a b : LengthAnswer) → readAnswer f ≡ readAnswer g → Output (reportRefusal f (length o)) (reportText f) o p a → Output (reportRefusal g (length o)) (reportText g) o v b → (a ≡ b) × (p ≡ v)
+pub reports-alike : (f g o p v : List ℕ) (a b : LengthAnswer) → readAnswer f ≡ readAnswer g
+    → Output (reportRefusal f (length o)) (reportText f) o p a → Output (reportRefusal g (length o)) (reportText g) o v b → (a ≡ b) × (p ≡ v)
 reports-alike f g o p v a b e x y = by-cases (ℕ-discrete (readRefusal f .number) 0)
-    (λ z. let chains = same-chains z in outputs-alike (report-parts f room ∙ (λ i. orElse (refusals i) (sizes-alike f g room chains i)) ∙ sym (report-parts g room)) (ap (λ (c : Chain). textOf (analysisOf c)) chains) x y)
-    (λ n. refused-outputs (report-as-read f room n ∙ refusals ∙ sym (report-as-read g room (λ z. n (ap (λ (r : Refusal). r .number) refusals ∙ z)))) (λ z. n (ap (λ (r : Refusal). r .number) (sym (report-as-read f room n)) ∙ z)) x y)
+    (λ z. let chains = same-chains z in outputs-alike (report-parts f room ∙ (λ i. orElse (refusals i) (sizes-alike f g room chains i)) ∙ sym (report-parts g room))
+    (ap (λ (c : Chain). textOf (analysisOf c)) chains) x y)
+    (λ n. refused-outputs (report-as-read f room n ∙ refusals ∙ sym (report-as-read g room (λ z. n (ap (λ (r : Refusal). r .number) refusals ∙ z))))
+    (λ z. n (ap (λ (r : Refusal). r .number) (sym (report-as-read f room n)) ∙ z)) x y)
   where
     room : ℕ
     room = length o

@@ -82,5 +82,6 @@ module _ (N : ℕ) (some : N ≢ 0) where
         more : (L : ℕ) → (Among n P L ⊎ (P n L ⊎ ⊥)) ↔ Among (suc n) P L
         more L = (
           ⊎-elim (λ a. record { at = a .at; inside = omega (arith, a .inside); is = a .is }) (⊎-elim (λ p. record { at = n; inside = omega arith; is = p }) (λ b. absurd b)),
-          λ a. ⊎-elim (λ (e : a .at ≡ n). inr (inl (subst (λ (i : ℕ). P i L) e (a .is)))) (λ l. inl (record { at = a .at; inside = l; is = a .is })) (eq-or-lt-of-le {n = a .at} {m = n} (omega (arith, a .inside))),
+          λ a. ⊎-elim (λ (e : a .at ≡ n). inr (inl (subst (λ (i : ℕ). P i L) e (a .is))))
+              (λ l. inl (record { at = a .at; inside = l; is = a .is })) (eq-or-lt-of-le {n = a .at} {m = n} (omega (arith, a .inside))),
         )

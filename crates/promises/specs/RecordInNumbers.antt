@@ -208,7 +208,8 @@ module _ (c : Chain) (q w : ℕ) where
 
   -- 4, the tables standing anywhere, says the first word out of its range
   pub range-first : (L : ℕ) → (rangeCheck c q w ≡ refused 4 L) ↔ FirstOutAt c q w L
-  range-first L = rw parts-are (Iff·trans (or-says 4 L four periodCheck (orElse queuesCheck nodesCheck)) (Iff·trans (sum-iff Iff·rfl (Iff·and Iff·rfl (or-says 4 L four queuesCheck nodesCheck))) (out, back)))
+  range-first L = rw parts-are (Iff·trans (or-says 4 L four periodCheck (orElse queuesCheck nodesCheck))
+      (Iff·trans (sum-iff Iff·rfl (Iff·and Iff·rfl (or-says 4 L four queuesCheck nodesCheck))) (out, back)))
     where
       in-range : Silent periodCheck → PeriodOut c → ⊥
       in-range z p = period-finds .silent .0 z 4 (refl, p)
@@ -272,7 +273,8 @@ good-is c = fine-is c 20 (20 + 20 * c .n)
 
 -- where the tables of a packed file stand, 4 says the lowest word out of its range
 packed-finds : (c : Chain) → Finds (rangeCheck c 20 (20 + 20 * c .n)) 4 (OutAt c 20 (20 + 20 * c .n))
-packed-finds c = rw (parts-are c 20 w) (finds-as (λ L. (out L, back L)) (finds-then 4 four first-places (period-finds c 20 w) (finds-then 4 four later-places (queues-finds c 20 w) (nodes-finds c 20 w))))
+packed-finds c = rw (parts-are c 20 w)
+    (finds-as (λ L. (out L, back L)) (finds-then 4 four first-places (period-finds c 20 w) (finds-then 4 four later-places (queues-finds c 20 w) (nodes-finds c 20 w))))
   where
     w : ℕ
     w = 20 + 20 * c .n

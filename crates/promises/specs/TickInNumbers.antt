@@ -166,7 +166,8 @@ module _ (c : Chain) (s : Run) (slots : AllSlots s) (ok : tickAnswer c s .number
           let k = tick-lacks c s slots ok t i .0 e in
           ((k .0, λ d. rw (capacity-is c a 0 (a .chain .count .0)) (k .1 .fits d)), lacks-asked i (k .1))
 
-      back : (((t ≡ s .clock) × ((c .period ∣ s .clock) → heldAt s 0 + pOf c 0 ≤ line c 0 .capacity)) × LacksAsked c s i) → (o : Outcome) → tickAnswer c s .outcome ≡ o → UndatedAt (tickAnswer c s .outcome) t i
+      back : (((t ≡ s .clock) × ((c .period ∣ s .clock) → heldAt s 0 + pOf c 0 ≤ line c 0 .capacity)) × LacksAsked c s i)
+          → (o : Outcome) → tickAnswer c s .outcome ≡ o → UndatedAt (tickAnswer c s .outcome) t i
       back h Clean e =
           let k = tick-leaves c s slots ok (cleanly-is (tickAnswer c s .outcome) .1 e) in
           let q : ℕ = h .1 .queue in
@@ -201,8 +202,12 @@ module _ (c : Chain) (s : Run) (slots : AllSlots s) (ok : tickAnswer c s .number
             is = record {
               node = l;
               over = o;
-              early = λ j m p. rw (due q l o, due j m p) (subst (λ (i : ℕ). deadline c i (suc (countAt (k .after) i)) ≤ deadline c (suc j) (suc (countAt (k .after) (suc j)))) e (k .works .early (suc j) (zero-lt-suc j) m (over-in (k .source) j p)));
-              tie = λ j f m p. rw (due q l o, due j m p) (subst (λ (i : ℕ). deadline c i (suc (countAt (k .after) i)) < deadline c (suc j) (suc (countAt (k .after) (suc j)))) e (k .works .tie (suc j) (omega (arith, e)) m (over-in (k .source) j p)));
+              early = λ j m p. rw (due q l o, due j m p)
+                  (subst (λ (i : ℕ). deadline c i (suc (countAt (k .after) i)) ≤ deadline c (suc j) (suc (countAt (k .after) (suc j)))) e
+                  (k .works .early (suc j) (zero-lt-suc j) m (over-in (k .source) j p)));
+              tie = λ j f m p. rw (due q l o, due j m p)
+                  (subst (λ (i : ℕ). deadline c i (suc (countAt (k .after) i)) < deadline c (suc j) (suc (countAt (k .after) (suc j)))) e
+                  (k .works .tie (suc j) (omega (arith, e)) m (over-in (k .source) j p)));
               works = own ∙ ap (λ (m : ℕ). m + 1) (source-work (k .source) q);
               others = λ j ne. other-work (k .work) j (λ f. ne (omega (arith, e, f))) ∙ source-work (k .source) j;
             };

@@ -191,7 +191,8 @@ zero-sum c zero = refl
 zero-sum c (suc j) = rw (zeros 16 j, zero-sum c j) (omega arith)
 
 -- "the over-threshold node .. works one tick": the ticks that all nodes have worked in a clean run are the instants at which one was over threshold
-pub run-worked : (c : Chain) (T : ℕ) → DeadlineRuns c T → Cleanly (deadlineRunAnswer c T .outcome) → Exactly (λ t. SomeThen c (deadlineRunAnswer c t .run)) T (sumWorked c (deadlineRunAnswer c T .run) (c .n))
+pub run-worked : (c : Chain) (T : ℕ) → DeadlineRuns c T → Cleanly (deadlineRunAnswer c T .outcome)
+    → Exactly (λ t. SomeThen c (deadlineRunAnswer c t .run)) T (sumWorked c (deadlineRunAnswer c T .run) (c .n))
 unfolding Exactly
 run-worked c T ran ends = along c T ran Worked first more (cleanly-is (deadlineRunAnswer c T .outcome) .0 ends)
   where

@@ -50,12 +50,23 @@ word-front {s} {at} {v} t k =
     let l = k .inside in
     record {
       inside = omega (arith, length-append s t);
-      is = k .is ∙ sym (rw (List·getD-append s t 0 at (omega arith), List·getD-append s t 0 (at + 1) (omega arith), List·getD-append s t 0 (at + 2) (omega arith), List·getD-append s t 0 (at + 3) (omega arith)));
+      is = k .is ∙ sym (rw (
+        List·getD-append s t 0 at (omega arith),
+        List·getD-append s t 0 (at + 1) (omega arith),
+        List·getD-append s t 0 (at + 2) (omega arith),
+        List·getD-append s t 0 (at + 3) (omega arith),
+      ));
     }
 
 -- and rows
 row-front : {s : List ℕ} {at : ℕ} {r : Queue} (t : List ℕ) → RowWords s at r → RowWords (s ++ t) at r
-row-front t k = record { produce = word-front t (k .produce); threshold = word-front t (k .threshold); consume = word-front t (k .consume); capacity = word-front t (k .capacity); reserved = word-front t (k .reserved) }
+row-front t k = record {
+  produce = word-front t (k .produce);
+  threshold = word-front t (k .threshold);
+  consume = word-front t (k .consume);
+  capacity = word-front t (k .capacity);
+  reserved = word-front t (k .reserved);
+}
 
 -- the packed file of a sound chain by its words
 module _ (c : Chain) (s : Sound c) where
@@ -131,14 +142,21 @@ write-exactly c o p a v z = (wrote .0 ∙ ap (λ (k : ℕ). record { number = 0;
     behind : (i : ℕ) → 20 + 24 * c .n ≤ i → getD (packed c ++ rest) i 0 ≡ getD o i 0
     behind i l =
         let e : length (packed c) + (i - length (packed c)) ≡ i = omega (arith, packed-length c) in
-        ap (λ (k : ℕ). getD (packed c ++ rest) k 0) (sym e) ∙ getD-append-add (packed c) rest (i - length (packed c)) 0 ∙ getD-drop (length (packed c)) o (i - length (packed c)) 0 ∙ ap (λ (k : ℕ). getD o k 0) e
+        ap (λ (k : ℕ). getD (packed c ++ rest) k 0) (sym e) ∙ getD-append-add (packed c) rest (i - length (packed c)) 0
+        ∙ getD-drop (length (packed c)) o (i - length (packed c)) 0 ∙ ap (λ (k : ℕ). getD o k 0) e
 
     front : (i : ℕ) → i < 20 + 24 * c .n → getD (packed c ++ rest) i 0 < 256
     front i l = rw (List·getD-append (packed c) rest 0 i (omega (arith, packed-length c))) (packed-small c i)
 
     whole : WrittenAs c o (packed c ++ rest)
     whole = record {
-      header = record { count = word-front rest (header .count); period = word-front rest (header .period); queues = word-front rest (header .queues); nodes = word-front rest (header .nodes); total = word-front rest (header .total) };
+      header = record {
+        count = word-front rest (header .count);
+        period = word-front rest (header .period);
+        queues = word-front rest (header .queues);
+        nodes = word-front rest (header .nodes);
+        total = word-front rest (header .total);
+      };
       tables = record { rows = λ i l. row-front rest (tables .rows i l); nodes = λ i l. word-front rest (tables .nodes i l) };
       small = front;
       rest = behind;

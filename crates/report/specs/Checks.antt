@@ -43,11 +43,13 @@ reportNumbers = readNumbers ++ (6 ∷ 7 ∷ 10 ∷ [])
 pub report-numbered : (f : List ℕ) (room : ℕ) → Numbered reportNumbers (reportChecks f room)
 unfolding Numbered
 report-numbered f room =
-    numbered-append readNumbers (6 ∷ 7 ∷ 10 ∷ []) (readChecks f) (sizeChecks (chainOf f) ++ (roomCheck (length (reportText f)) room ∷ [])) (read-numbered f) (rate-only (chainOf f), (load-only (chainOf f), (room-only (length (reportText f)) room, tt)))
+    numbered-append readNumbers (6 ∷ 7 ∷ 10 ∷ []) (readChecks f) (sizeChecks (chainOf f) ++ (roomCheck (length (reportText f)) room ∷ []))
+    (read-numbered f) (rate-only (chainOf f), (load-only (chainOf f), (room-only (length (reportText f)) room, tt)))
 
 -- a file is refused with a number exactly when no earlier check speaks and the number's own condition holds
 module _ (f : List ℕ) (room L : ℕ) where
-  report-at : (k : ℕ) → k < 8 → (reportRefusal f room ≡ refused (getD reportNumbers k 0) L) ↔ (Silents (take k (reportChecks f room)) × (getD (reportChecks f room) k fine ≡ refused (getD reportNumbers k 0) L))
+  report-at : (k : ℕ) → k < 8 → (reportRefusal f room ≡ refused (getD reportNumbers k 0) L)
+      ↔ (Silents (take k (reportChecks f room)) × (getD (reportChecks f room) k fine ≡ refused (getD reportNumbers k 0) L))
   unfolding reportRefusal
   report-at k l = exact-at reportNumbers (reportChecks f room) (report-numbered f room) tt k L l
 

@@ -32,7 +32,8 @@ comma n h = record { bytes = column-word n 44 h }
 numbers-short : (i : ℕ) (q : QueueSize) → i < 2 ^ 32 → SizeFits q → AtMost 55 (numbers i q)
 unfolding numbers
 numbers-short i q h s =
-    in-row (comma i h) (in-row (comma (q .x) (omega (arith, s .x))) (in-row (comma (q .y) (omega (arith, s .y))) (in-row (comma (q .minimum) (omega (arith, s .minimum))) (comma (q .capacity) (omega (arith, s .capacity))))))
+    in-row (comma i h) (in-row (comma (q .x) (omega (arith, s .x)))
+    (in-row (comma (q .y) (omega (arith, s .y))) (in-row (comma (q .minimum) (omega (arith, s .minimum))) (comma (q .capacity) (omega (arith, s .capacity))))))
 
 -- 11 for each of five numbers with the comma behind it, 11 for the margin, 1 for the line feed
 abbrev pub longestLine : ℕ
@@ -41,7 +42,13 @@ longestLine = 67
 pub line-short : (i : ℕ) (q : QueueSize) → i < 2 ^ 32 → SizeFits q → length (line i q) ≤ longestLine
 unfolding line
 line-short i q h s =
-    omega (arith, length-append (numbers i q) (integer (q .margin) ++ (10 ∷ [])), length-append (integer (q .margin)) (10 ∷ []), numbers-short i q h s .bytes, integer-word (q .margin) (omega (arith, s .margin)))
+    omega (
+      arith,
+      length-append (numbers i q) (integer (q .margin) ++ (10 ∷ [])),
+      length-append (integer (q .margin)) (10 ∷ []),
+      numbers-short i q h s .bytes,
+      integer-word (q .margin) (omega (arith, s .margin)),
+    )
 
 -- the first line, a line for each of 16 queues, and 27 for the last line: 1,133
 abbrev pub longestReport : ℕ
@@ -52,7 +59,8 @@ module _ (c : Chain) (a : Accepted c) where
   unfolding flat
   lines-short zero l = omega arith
   lines-short (suc i) l =
-      let last : length (line i (getD (analysisOf c .queues) i noSize)) ≤ longestLine = rw (size-at c i (a .chain .count .1) l) (line-short i (sizeOf c i) (omega (arith, a .chain .count .1)) (size-fits c a i l)) in
+      let last : length (line i (getD (analysisOf c .queues) i noSize)) ≤ longestLine =
+      rw (size-at c i (a .chain .count .1) l) (line-short i (sizeOf c i) (omega (arith, a .chain .count .1)) (size-fits c a i l)) in
       omega (arith, length-append (lines (analysisOf c) i) (line i (getD (analysisOf c .queues) i noSize)), lines-short i (omega arith), last)
 
   busy-short : length (busyLine (analysisOf c)) ≤ 27

@@ -85,7 +85,8 @@ module _ (c : Chain) (s : Sound c) where
       let split : k + m * turnsOf c (suc i) ≡ k + m * q * turnsOf c i = ap (λ (n : ℕ). k + m * n) (turns-next i l) ∙ ap (λ (n : ℕ). k + n) (sym (mul-assoc m q (turnsOf c i))) in
       ap (λ (n : ℕ). fed c i (F c n i)) split
       ∙ ap (fed c i) (rates i (omega arith) k (m * q) (F-feeds s k i l h))
-      ∙ ap (fires (rowOf c i .threshold) (rowOf c i .consume)) (more (start (rowOf c i)) _ _ q (xOf c i) (nextX (rowOf c i .produce) (rowOf c i .consume) (xOf c i)) (F c k i) m (next-balance _ _ _ hc))
+      ∙ ap (fires (rowOf c i .threshold) (rowOf c i .consume))
+      (more (start (rowOf c i)) _ _ q (xOf c i) (nextX (rowOf c i .produce) (rowOf c i .consume) (xOf c i)) (F c k i) m (next-balance _ _ _ hc))
       ∙ fires-shift _ _ _ (m * nextX (rowOf c i .produce) (rowOf c i .consume) (xOf c i)) hc h
 
   -- "for a node that has fired by k, k + y_i/y firings of the source give it x_i firings more"

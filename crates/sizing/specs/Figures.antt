@@ -34,6 +34,7 @@ pub flush-figure : (sizeOf flush 1 ≡ record { x = 1; y = 800; minimum = 8; by 
 unfolding factoryAnswer sizeBy busyIn
 flush-figure = (refl, (refl, refl))
 
-pub written-figure : (sizeOf written 0 ≡ record { x = 4; y = 15; minimum = 10; by = 4; capacity = 12; margin = pos 2 }) × (sizeOf written 1 ≡ record { x = 6; y = 15; minimum = 6; by = 3; capacity = 5; margin = negsuc 0 })
+pub written-figure : (sizeOf written 0 ≡ record { x = 4; y = 15; minimum = 10; by = 4; capacity = 12; margin = pos 2 })
+    × (sizeOf written 1 ≡ record { x = 6; y = 15; minimum = 6; by = 3; capacity = 5; margin = negsuc 0 })
 unfolding tab sizeBy busyIn
 written-figure = (refl, refl)

@@ -42,6 +42,7 @@ module _ (c : Chain) (s : Sound c) where
   pub busy-next : (i : ℕ) → i < c .n → busyIn c (yOf c (suc i)) (suc i) ≡ busyIn c (yOf c i) i * stretchOf c i + workOf c i * xOf c (suc i)
   unfolding busyIn
   busy-next i l =
-      let before : busyIn c (yOf c (suc i)) i ≡ busyIn c (yOf c i) i * stretchOf c i = ap (λ (m : ℕ). busyIn c m i) (y-stretch c s i l) ∙ busy-scale (stretchOf c i) (yOf c i) i (omega arith) (dvd-refl _) in
+      let before : busyIn c (yOf c (suc i)) i ≡ busyIn c (yOf c i) i * stretchOf c i =
+      ap (λ (m : ℕ). busyIn c m i) (y-stretch c s i l) ∙ busy-scale (stretchOf c i) (yOf c i) i (omega arith) (dvd-refl _) in
       let once : yOf c (suc i) / yOf c (suc i) ≡ 1 = div-self (y-pos c s (suc i) l) in
       ap₂ _+_ before (ap (λ (n : ℕ). workOf c i * xOf c (suc i) * n) once ∙ mul-one _)

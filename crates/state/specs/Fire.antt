@@ -122,7 +122,8 @@ module _ (c : Chain) (s : Run) (i L : ℕ) where
   pub fire-11 : (fireRefusal c s i ≡ refused 11 L) ↔ (Silents (analyseChecks c ++ (stateCheck c s ∷ countCheck c s i ∷ [])) × (((c .n < i) ⊎ (Over c s i → ⊥)) × (L ≡ i)))
   fire-11 = Iff·trans (fire-at 7 (omega arith)) (Iff·and Iff·rfl (over-exact c s i L))
 
-  pub fire-12 : (fireRefusal c s i ≡ refused 12 L) ↔ (Silents (analyseChecks c ++ (stateCheck c s ∷ countCheck c s i ∷ overCheck c s i ∷ [])) × (((i < c .n) × (capacityOf (rowOf c i) < heldAt s i + rowOf c i .produce)) × (L ≡ i)))
+  pub fire-12 : (fireRefusal c s i ≡ refused 12 L) ↔ (Silents (analyseChecks c ++ (stateCheck c s ∷ countCheck c s i ∷ overCheck c s i ∷ []))
+      × (((i < c .n) × (capacityOf (rowOf c i) < heldAt s i + rowOf c i .produce)) × (L ≡ i)))
   fire-12 = Iff·trans (fire-at 8 (omega arith)) (Iff·and Iff·rfl (room-exact c s i L))
 
   -- what the analysis says stands, and nothing else has its numbers

@@ -155,7 +155,8 @@ slots-kept c s i k = record { counts = omega (arith, k .counts, counts-length c 
 
 pub balance-kept : (c : Chain) (s : Run) (i j : ℕ) → Slots (c .n) s → j < c .n → (i ≡ suc j → rowOf c j .consume ≤ heldAt s j) → Balance c s j → Balance c (fired c s i) j
 balance-kept c s i j k l enough b = by-cases (ℕ-discrete j i)
-    (λ e. put-balance _ _ _ _ _ _ _ _ _ (rw e (count-fired c s i (omega (arith, k .counts)))) (count-other c s i (suc j) (λ f. omega arith)) (rw e (held-output c s i (omega arith) (omega (arith, k .held)))) b)
+    (λ e. put-balance _ _ _ _ _ _ _ _ _ (rw e (count-fired c s i (omega (arith, k .counts))))
+    (count-other c s i (suc j) (λ f. omega arith)) (rw e (held-output c s i (omega arith) (omega (arith, k .held)))) b)
     (λ ne. by-cases (ℕ-discrete (suc j) i)
     (λ e. take-balance _ _ _ _ _ _ _ _ _ (count-other c s i j ne) (rw e (count-fired c s i (omega (arith, k .counts)))) (rw (← e) (held-input c s j (omega (arith, k .held)) (enough (sym e)))) b)
     (λ ne′. keep-balance _ _ _ _ _ _ _ _ _ (count-other c s i j ne) (count-other c s i (suc j) ne′) (held-other c s i j ne ne′) b))

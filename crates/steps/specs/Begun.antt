@@ -61,7 +61,8 @@ module _ (c : Chain) (s : Run) where
     after-lack i e = after-clean ∙ ap (λ (x : Refusal). cond (eqb (x .number) 0) (clean (sourced c s .run)) (undated s (s .clock) (x .place))) e
 
 -- a flow shows what they leave
-begun-to : {c : Chain} {s : Run} {t : ℕ} {g : List ℕ} {r : Start} {x : Ticked} → begun c s ≡ x → x .outcome ≡ outcomeAs (r .kind) t (r .node) → Shows g c (x .run) → (r .kind ≡ 0 → chosen c (x .run) ≡ r .node) → r .node ≤ c .n → BegunTo c s t g r
+begun-to : {c : Chain} {s : Run} {t : ℕ} {g : List ℕ} {r : Start} {x : Ticked} → begun c s ≡ x → x .outcome ≡ outcomeAs (r .kind) t (r .node)
+    → Shows g c (x .run) → (r .kind ≡ 0 → chosen c (x .run) ≡ r .node) → r .node ≤ c .n → BegunTo c s t g r
 begun-to {c} {s} {t} {g} {r} e o h n low = record {
   outcome = ap (λ (y : Ticked). y .outcome) e ∙ o;
   shows = subst (λ (y : Ticked). Shows g c (y .run)) (sym e) h;
@@ -118,7 +119,8 @@ module _ {l f g : List ℕ} {t : ℕ} where
           let b : SourcedTo c s t g true = a .gives x k in
           let still : sourced c s ≡ clean s = source-still (x .running) (b .outcome) (sym (b .shows .counts 0 (omega arith)) ∙ same ∙ x .shown .shows .counts 0 (omega arith)) in
           let is : sourced c s .run ≡ s = ap (λ (y : Ticked). y .run) still in
-          begun-to (after-silent c s (b .outcome) (subst (λ (u : Run). Silent (lacking c u)) (sym is) (n low .0))) refl (b .shows) (λ z. subst (λ (u : Run). chosen c u ≡ i) (sym is) (n low .1)) (subst (λ (k : ℕ). k ≤ c .n) (n low .1) (chosen-low c s));
+          begun-to (after-silent c s (b .outcome) (subst (λ (u : Run). Silent (lacking c u)) (sym is) (n low .0))) refl (b .shows)
+          (λ z. subst (λ (u : Run). chosen c u ≡ i) (sym is) (n low .1)) (subst (λ (k : ℕ). k ≤ c .n) (n low .1) (chosen-low c s));
     }
 
     module _ {d : List ℕ} {m : ℕ} (b : LackingGives g d m) where
@@ -130,7 +132,8 @@ module _ {l f g : List ℕ} {t : ℕ} where
         gives = λ {c} {s} x k q n.
             let o : sourced c s .outcome ≡ Clean = a .gives x k .outcome in
             let says : lackOf m ≡ refused 13 m = simp (ne-eqb m 0 some) in
-            begun-to (after-lack c s o m (lack-is x k q ∙ says)) (ap (λ (u : ℕ). NoDeadline u m) k) (restored x o (a .gives x k .shows)) (λ z. absurd (omega arith)) (lacking-exact c (sourced c s .run) m .0 (lack-is x k q ∙ says) .node);
+            begun-to (after-lack c s o m (lack-is x k q ∙ says)) (ap (λ (u : ℕ). NoDeadline u m) k) (restored x o (a .gives x k .shows))
+            (λ z. absurd (omega arith)) (lacking-exact c (sourced c s .run) m .0 (lack-is x k q ∙ says) .node);
       }
 
       pub begun-chooses : {i r : ℕ} → m ≡ 0 → ChosenGives g d r → BegunGives l f d t i g (record { kind = 0; node = r })

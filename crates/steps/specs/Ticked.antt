@@ -181,8 +181,11 @@ module _ {l f d e : List ℕ} {t i : ℕ} {c : Chain} {s : Run} {g : List ℕ} {
 
   time-is : (j : ℕ) → k ≡ suc j → (workIn l j ≡ workOf c j) × (getD (workedIn e k) j 0 ≡ doneAt u j + 1)
   time-is j h =
-      let m : j < c .n = omega (arith, low) in
-      (x .stands .shown .plans .works j m, ap (λ (y : List ℕ). getD y j 0) worked-is ∙ subst (λ (n : ℕ). doneAt (worked u n) j ≡ doneAt u j + 1) (sym h) (worked-same u j (omega (arith, run .whole .done, run .chain .chain .count .1))))
+      let m : j < c .n = omega (arith, low) in (
+        x .stands .shown .plans .works j m,
+        ap (λ (y : List ℕ). getD y j 0) worked-is
+            ∙ subst (λ (n : ℕ). doneAt (worked u n) j ≡ doneAt u j + 1) (sym h) (worked-same u j (omega (arith, run .whole .done, run .chain .chain .count .1))),
+      )
 
   unended : endedAt l (workedIn e k) k ≡ false → (j : ℕ) → j < c .n → k ≡ suc j → doneAt u j + 1 < workOf c j
   unfolding endedAt

@@ -45,7 +45,8 @@ module _ {c d : Chain} (a : AlikeChains c d) where
       by : (b : Bool) → ltb (c .n) i ≡ b → answeredDue (deadlineRefusal c i k) (deadline c i k) ≡ answeredDue (deadlineRefusal d i k) (deadline d i k)
       by false e =
           let l : i ≤ c .n = ltb-false _ _ e in
-          let alike : deadlineRefusal c i k ≡ deadlineRefusal d i k = deadline-parts c i k ∙ (λ t. orElse (run-alike a t) (first (test 11 i (ltb (a .n t) i || eqb k 0) ∷ index-alike i k l t ∷ []))) ∙ sym (deadline-parts d i k) in
+          let alike : deadlineRefusal c i k ≡ deadlineRefusal d i k = deadline-parts c i k
+          ∙ (λ t. orElse (run-alike a t) (first (test 11 i (ltb (a .n t) i || eqb k 0) ∷ index-alike i k l t ∷ []))) ∙ sym (deadline-parts d i k) in
           λ t. answeredDue (alike t) (deadline-alike i k l t)
       by true e =
           let l : c .n < i = ltb-true _ _ e in

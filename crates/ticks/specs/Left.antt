@@ -43,7 +43,8 @@ left-is {l} {e} {r} {c} {x} t = λ z. record {
   run = (state ∙ shown-with (t .shows)) z;
 }
   where
-    state : _≡_ {A = Run} (record { clock = r .tick; counts = shown l .counts; held = shown l .held; done = e }) (record { clock = x .run .clock; counts = shown l .counts; held = shown l .held; done = x .run .done })
+    state : _≡_ {A = Run} (record { clock = r .tick; counts = shown l .counts; held = shown l .held; done = e })
+        (record { clock = x .run .clock; counts = shown l .counts; held = shown l .held; done = x .run .done })
     state = λ z. record { clock = sym (t .clock) z; counts = shown l .counts; held = shown l .held; done = t .done z }
 
 -- the outcome of each code

@@ -148,7 +148,8 @@ module _ {l g o h : List ℕ} {k U i : ℕ} {c : Chain} {x : Ticked} (y : Gone l
       shown-next : Shown l u c (tick c now .run)
       shown-next = record { plans = y .lends .shown .plans; shows = p .shows }
 
-      gone-next : {w : List ℕ} {m : ℕ} → (k + 1 < U → (j : ℕ) → j < c .n → getD w j 0 ≡ datedOf c (suc j) (next (tick c now .run) (suc j))) → length w ≡ 16 → Known c (tick c now .run) m → Gone l u w v (k + 1) U m c x
+      gone-next : {w : List ℕ} {m : ℕ} → (k + 1 < U → (j : ℕ) → j < c .n → getD w j 0 ≡ datedOf c (suc j) (next (tick c now .run) (suc j)))
+          → length w ≡ 16 → Known c (tick c now .run) m → Gone l u w v (k + 1) U m c x
       gone-next keeps wide known = record {
         now = tick c now .run;
         lends = record {

@@ -107,7 +107,8 @@ module _ (c : Chain) where
   unfolding advanced
   advanced-clock s z =
       let o = onward-cases (begun c s) (λ u. clean (worked u (chosen c u))) z in
-      let source : begun c s .run .clock ≡ s .clock = ap (λ (x : Ticked). x .run .clock) (begun-clean c s (o .0) .1 .1) ∙ source-cases c s (λ x. x .run .clock ≡ s .clock) (λ e. refl) (λ e. fired-clock c s 0) refl in
+      let source : begun c s .run .clock ≡ s .clock = ap (λ (x : Ticked). x .run .clock) (begun-clean c s (o .0) .1 .1)
+      ∙ source-cases c s (λ x. x .run .clock ≡ s .clock) (λ e. refl) (λ e. fired-clock c s 0) refl in
       ap (λ (x : Ticked). x .run .clock) (o .1 .1) ∙ omega (arith, worked-clock (begun c s .run) (chosen c (begun c s .run)), source)
 
   -- a tick at t has at most one firing of the source, at t, and then at most one of another node, at t+1
@@ -124,7 +125,8 @@ module _ (c : Chain) where
 
       rest : (g : List Entry) → P (g ++ []) → ((j : ℕ) → P (g ++ ((suc (s .clock), suc j) ∷ []))) → P (g ++ later)
       rest g a b = tracing-cases (advanced c s .outcome) (advanced c s .run) (finishTrace c) (λ h. P (g ++ h)) a
-          (λ z. tracing-cases (finished c (advanced c s .run) .outcome) (advanced c s .run) _ (λ h. P (g ++ h)) a (λ y. ends g a b (advanced c s .run) (advanced-clock s z) (ended c (advanced c s .run))))
+          (λ z. tracing-cases (finished c (advanced c s .run) .outcome) (advanced c s .run) _ (λ h. P (g ++ h)) a
+          (λ y. ends g a b (advanced c s .run) (advanced-clock s z) (ended c (advanced c s .run))))
 
       by : (b : Bool) → P (cond b ((s .clock, 0) ∷ []) [] ++ later)
       by true = rest ((s .clock, 0) ∷ []) (one 0) both
@@ -243,7 +245,8 @@ module _ (c : Chain) (T : ℕ) (ok : deadlineRunAnswer c T .number ≡ 0) (z : d
 
       more : (t : ℕ) → t < T → Step c t → entriesOf c t 0 ≡ multiples (ceil t (c .period)) → entriesOf c (suc t) 0 ≡ multiples (ceil (suc t) (c .period))
       more t l k h =
-          let now : countAt (deadlineRunAnswer c t .run) 0 ≡ ceil t (c .period) = sym (count-to c T ok t (omega arith) 0 (omega arith)) ∙ ap length h ∙ length-tab (ceil t (c .period)) (λ m. m * c .period) in
+          let now : countAt (deadlineRunAnswer c t .run) 0 ≡ ceil t (c .period) = sym (count-to c T ok t (omega arith) 0 (omega arith))
+          ∙ ap length h ∙ length-tab (ceil t (c .period)) (λ m. m * c .period) in
           let next : countAt (deadlineRunAnswer c (suc t) .run) 0 ≡ ceil (suc t) (c .period) = tick-source k now in
           ⊎-elim
           (λ e. e .0 ∙ h ∙ ap multiples (sym now ∙ sym (e .1) ∙ next))
@@ -333,14 +336,26 @@ module _ (c : Chain) (T : ℕ) (ok : deadlineRunAnswer c T .number ≡ 0) (z : d
     pub entries-first : 0 < length (entriesOf c T (suc j)) → workOf c j ≤ getD (entriesOf c T (suc j)) 0 0
     entries-first some =
         let a = all-fired 0 some in
-        omega (arith, fired-work a, worked-by j 0 (getD (entriesOf c T (suc j)) 0 0) (omega arith) (omega (arith, a .is, a .within)), ap (λ (x : TickAnswer). workedBy c (x .run) j) (run-start c T ok), fresh-work c j)
+        omega (
+          arith,
+          fired-work a,
+          worked-by j 0 (getD (entriesOf c T (suc j)) 0 0) (omega arith) (omega (arith, a .is, a .within)),
+          ap (λ (x : TickAnswer). workedBy c (x .run) j) (run-start c T ok),
+          fresh-work c j,
+        )
 
     -- and so does each after it
     pub entries-apart : (k : ℕ) → suc k < length (entriesOf c T (suc j)) → getD (entriesOf c T (suc j)) k 0 + workOf c j ≤ getD (entriesOf c T (suc j)) (suc k) 0
     entries-apart k l =
         let a = all-fired k (omega arith) in
         let b = all-fired (suc k) l in
-        omega (arith, fired-work a, fired-work b, worked-by j (getD (entriesOf c T (suc j)) k 0) (getD (entriesOf c T (suc j)) (suc k) 0) (fired-order a b (omega arith)) (omega (arith, b .is, b .within)))
+        omega (
+          arith,
+          fired-work a,
+          fired-work b,
+          worked-by j (getD (entriesOf c T (suc j)) k 0)
+              (getD (entriesOf c T (suc j)) (suc k) 0) (fired-order a b (omega arith)) (omega (arith, b .is, b .within)),
+        )
 
   -- "a run of T ticks from a fresh start": no instant is before the one before it, or after T
   pub entries-rise : Rising 0 (trace c T (freshRun c)) T
