@@ -1,7 +1,22 @@
 -- What C is answered in place of an outcome of several kinds.
 --   coded a                  the answer a with its outcome as a code, a tick, and a queue or node; without its state
 --   flat a                   the same, and its state
+--   isClean a                whether a, as C has it, is the answer of a tick that was taken and ended clean
+--   unclean-stays            a tick with any other answer leaves the state as it was
+use mathlib.Core.Path.{_≡_, ap}
+use mathlib.Core.Bool.{Bool, not, _&&_}
+use mathlib.Core.Logic.{by-cases}
+use native.Mathlib.Decide.{ℕ-discrete}
+use lib.Dec.{T, T-not, eqb}
+use Rattle.chain.specs.declared.Chain.{Chain}
+use Rattle.state.specs.declared.Run.{Run}
+use Rattle.past.specs.Runs.{Whole}
 use Rattle.instants.specs.Steps.{kindOf, tickOf, atOf}
+use Rattle.instants.specs.Checks.{outcomeOf, tickAnswer}
+use Rattle.instants.specs.Refusals.{tick-refused}
+use Rattle.instants.specs.Exactly.{one-stays}
+use Rattle.instants.specs.Answers.{answer-one}
+use Rattle.instants.specs.declared.Outcome.the-variants.{Clean}
 use Rattle.instants.specs.declared.TickAnswer.{TickAnswer}
 use Rattle.ardenquill.specs.declared.OutcomeAnswer.{OutcomeAnswer}
 use Rattle.ardenquill.specs.declared.OutcomeRun.{OutcomeRun}
@@ -15,3 +30,19 @@ abbrev pub flat : TickAnswer → OutcomeRun
 flat a =
     let code = coded a in
     record { number = code .number; place = code .place; kind = code .kind; tick = code .tick; at = code .at; run = a .run }
+
+-- "it ends clean", of a tick that is not refused
+abbrev pub isClean : OutcomeAnswer → Bool
+isClean a = eqb (a .number) 0 && eqb (a .kind) 0
+
+-- which an answer is that was not refused and has this outcome
+clean-is : (a : TickAnswer) → a .number ≡ 0 → a .outcome ≡ Clean → T (isClean (coded a))
+clean-is a e f = rw (e, f) tt
+
+-- "run state as before" where a tick is refused, and "the state being that before the production" or "before the source's step" where it is not clean:
+-- the state is the one handed in, so that nothing has to be stored
+pub unclean-stays : (c : Chain) (s : Run) → Whole s → T (not (isClean (coded (tickAnswer c s)))) → tickAnswer c s .run ≡ s
+unfolding tickAnswer outcomeOf
+unclean-stays c s w n = by-cases (ℕ-discrete (tickAnswer c s .number) 0)
+    (λ ok. one-stays (answer-one c s w ok) (λ z. T-not (isClean (coded (tickAnswer c s))) n (clean-is (tickAnswer c s) ok z)))
+    (λ some. ap (λ (a : TickAnswer). a .run) (tick-refused c s some))

@@ -10,7 +10,7 @@ ghost use Rattle.ardenquill.specs.Runs.{freshAnswer, fireAnswer};
 ghost use Rattle.ardenquill.specs.Immediate.{immediateAnswer};
 ghost use Rattle.ardenquill.specs.Deadlines.{deadlineAnswer};
 ghost use Rattle.ardenquill.specs.Ticks.{kindOf, tickOf, atOf, tickAnswer, deadlineRunAnswer};
-ghost use Rattle.ardenquill.specs.Flat.{coded, flat};
+ghost use Rattle.ardenquill.specs.Flat.{coded, isClean, flat};
 pub use chain::Chain;
 pub use chain::ChainAnswer;
 pub use chain::Queue;
@@ -134,14 +134,17 @@ pub extern "C" fn ardenquill_deadline(chain: Chain, node: u32, index: u32) -> De
 }
 
 // One tick of the state that the controller lends: how it ended, the state being the one after it; or the first of 2, 4, 5, 6,
-// 7, 8, 17 and 9 that refuses it, the state being as it was.
+// 7, 8, 17 and 9 that refuses it. Only a clean tick stores, since any other leaves the state as it was.
 #[no_mangle]
 pub extern "C" fn ardenquill_tick(chain: &Chain, run: &mut Run) -> OutcomeAnswer
     ensures { λ r. ⌜ (now (run .exit) ≡ tickAnswer (now (chain .entry)) (now (run .entry)) .run) × (r ≡ coded (tickAnswer (now (chain .entry)) (now (run .entry)))) ⌝ }
 {
     let answer = tick(*chain, *run);
-    *run = answer.run;
-    coded(answer)
+    let code = coded(answer);
+    if is_clean(code) {
+        *run = answer.run;
+    }
+    code
 }
 
 // How a deadline run of so many ticks from a fresh start ended and the state that it left, or the first of 2, 4, 5, 6, 7, 8
@@ -181,6 +184,13 @@ fn flattened(answer: TickAnswer) -> OutcomeRun
         at: code.at,
         run: run,
     }
+}
+
+// Whether an answer is that of a tick which was taken and ended clean.
+fn is_clean(code: OutcomeAnswer) -> bool
+    ensures { λ r. ⌜ r ≡ isClean code ⌝ }
+{
+    code.number == 0 && code.kind == 0
 }
 
 // The code of an outcome.
