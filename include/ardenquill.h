@@ -295,7 +295,9 @@ struct ardenquill_deadline_answer ardenquill_deadline(struct ardenquill_chain ch
  * as it was. The slots past n of chain and state are not looked at and stay as they are. So many ticks from a fresh
  * start are a deadline run.
  * Refuses with 2, 4, 5, 6, 7, 8, 17, 9, in this order, and then leaves the state as it was, every slot; kind, tick and
- * at are then 0. The places of 4 and 5 are offsets in the packed file. Writes nothing but the state. */
+ * at are then 0. The places of 4 and 5 are offsets in the packed file. Writes nothing but the state, and that only
+ * where the outcome is clean: a tick that is refused, overflows or has no deadline stores nothing, so that the state
+ * may then even lie in memory that may only be read. */
 struct ardenquill_outcome ardenquill_tick(const struct ardenquill_chain *chain, struct ardenquill_run *run);
 
 /* Makes a deadline run of so many ticks from a fresh start, and gives its outcome and the run state after it. At each
