@@ -1,6 +1,7 @@
 /* Every call of ardenquill.h, made twice: on inputs that differ only in what the call may not look at, and with what
- * is lent at the end and at the start of its room. Checks what holds of each call by itself, and counts what it
- * answers. */
+ * is lent at the end and at the start of its room. The second time what is lent to be read is sealed, and what is lent
+ * to be written too, where the first answer was one that leaves it as it was. Checks what holds of each call by itself,
+ * and counts what it answers. */
 #ifndef FUZZ_CALLS_H
 #define FUZZ_CALLS_H
 
@@ -147,6 +148,8 @@ static struct ardenquill_chain_answer read_lent(const uint8_t *file, size_t leng
 {
     const struct loan loan = lend(&file_room, side, length);
     memcpy(loan.bytes, file, length);
+    if (side == AT_START)
+        seal(&loan);
     enter(READ);
     struct ardenquill_chain_answer answer = ardenquill_read(loan.bytes, length);
     check(READ, memcmp(loan.bytes, file, length) == 0, "the file is as it was");
@@ -199,6 +202,8 @@ static struct ardenquill_length_answer call_write(const struct ardenquill_chain 
     for (int i = 0; i < 2; i++) {
         const struct loan out = lend(&out_room, i == 0 ? AT_END : AT_START, room);
         memset(out.bytes, fillings[i], room);
+        if (i == 1 && answers[0].number != 0)
+            seal(&out);
         enter(WRITE);
         answers[i] = ardenquill_write(handed, out.bytes, room);
         take_written(WRITE, &out, fillings[i], &answers[i], written[i]);
@@ -220,6 +225,10 @@ static struct ardenquill_length_answer call_report(const uint8_t *file, size_t l
         const struct loan out = lend(&out_room, i == 0 ? AT_END : AT_START, room);
         memcpy(lent.bytes, file, length);
         memset(out.bytes, fillings[i], room);
+        if (i == 1)
+            seal(&lent);
+        if (i == 1 && answers[0].number != 0)
+            seal(&out);
         enter(REPORT);
         answers[i] = ardenquill_report(lent.bytes, length, out.bytes, room);
         check(REPORT, memcmp(lent.bytes, file, length) == 0, "the file is as it was");
@@ -292,9 +301,9 @@ static struct ardenquill_run_answer call_fire(const struct ardenquill_chain *cha
     return answer;
 }
 
-/* Lends a chain and a run state at one side of their rooms, and makes a tick. */
+/* Lends a chain and a run state at one side of their rooms, the state sealed where it is to stay, and makes a tick. */
 static struct ardenquill_outcome_run tick_lent(const struct ardenquill_chain *chain, const struct ardenquill_run *run,
-                                               enum side side)
+                                               enum side side, int stays)
 {
     const struct loan chain_loan = lend(&chain_room, side, sizeof *chain);
     const struct loan run_loan = lend(&run_room, side, sizeof *run);
@@ -302,6 +311,10 @@ static struct ardenquill_outcome_run tick_lent(const struct ardenquill_chain *ch
     struct ardenquill_run *lent_run = (void *)run_loan.bytes;
     *lent = *chain;
     *lent_run = *run;
+    if (side == AT_START)
+        seal(&chain_loan);
+    if (stays)
+        seal(&run_loan);
     enter(TICK);
     const struct ardenquill_outcome left = ardenquill_tick(lent, lent_run);
     struct ardenquill_outcome_run answer = {left.number, left.place, left.kind, left.tick, left.at, *lent_run};
@@ -316,8 +329,9 @@ static struct ardenquill_outcome_run call_tick(const struct ardenquill_chain *ch
 {
     const struct ardenquill_chain other = flipped_chain(*chain);
     const struct ardenquill_run other_run = flipped_run(chain->n, *run);
-    struct ardenquill_outcome_run answer = tick_lent(chain, run, AT_END);
-    struct ardenquill_outcome_run again = tick_lent(&other, &other_run, AT_START);
+    struct ardenquill_outcome_run answer = tick_lent(chain, run, AT_END, 0);
+    const int stays = answer.number != 0 || answer.kind != ARDENQUILL_CLEAN;
+    struct ardenquill_outcome_run again = tick_lent(&other, &other_run, AT_START, stays);
     again.run = flipped_run(chain->n, again.run);
     judge_refusal(TICK, REFUSAL_OF(answer));
     judge_kind(TICK, REFUSAL_OF(answer), answer.kind);

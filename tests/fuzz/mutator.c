@@ -40,12 +40,12 @@ static void tell_input(void)
            (unsigned long long)step);
 }
 
-/* Ends the run where a page is touched that may not be. It is the library that does so, and not the C library's output,
- * so that this may print. */
+/* Ends the run where a page is touched that may not be, or a sealed one is written. It is the library that does so, and
+ * not the C library's output, so that this may print. */
 static void end_at_fault(int fault)
 {
     (void)fault;
-    check(entered, 0, "only what is lent is touched");
+    check(entered, 0, "only what is lent is touched, and nothing that is sealed is written");
     printf("0 passed, 1 failed\n");
     fflush(stdout);
     _exit(1);
