@@ -1,6 +1,5 @@
 -- What the report program prints (01, Report program).
 --   printed f        the report of the file f, or the line of its refusal
---   Front t p n      the first n of the bytes p are the text t
 --   prints-refusal, prints-report
 --                    how the library's calls, with room for the longest report, leave it at the front of what is lent to them
 use mathlib.Core.Path.{_≡_, sym, ap, _∙_}
@@ -21,14 +20,9 @@ use Rattle.chainfile.specs.declared.LengthAnswer.{LengthAnswer}
 unfoldable pub printed : List ℕ → List ℕ
 printed f = cond (eqb (fileRefusal f .number) 0) (reportText f) (refusalText (fileRefusal f .number) (fileRefusal f .place))
 
--- the first n of the bytes p are the text t
-pub record Front (t p : List ℕ) (n : ℕ) : Type 0 where
-  pub all : n ≡ length t
-  pub bytes : take n p ≡ t
-
 -- a text that was written to the front
-fronted : {t p : List ℕ} {n : ℕ} (o : List ℕ) → n ≡ length t → p ≡ t ++ drop (length t) o → Front t p n
-fronted {t} {p} {n} o e b = record { all = e; bytes = ap (take n) b ∙ take-at t _ n (sym e) }
+fronted : {t p : List ℕ} {n : ℕ} (o : List ℕ) → n ≡ length t → p ≡ t ++ drop (length t) o → take n p ≡ t
+fronted {t} {p} {n} o e b = ap (take n) b ∙ take-at t _ n (sym e)
 
 module _ (f o : List ℕ) (room : longestReport ≤ length o) {p : List ℕ} {a : LengthAnswer} (w : Output (reportRefusal f (length o)) (reportText f) o p a) where
   -- what the report call refuses with is what 1 to 7 refuse the file with
@@ -38,7 +32,7 @@ module _ (f o : List ℕ) (room : longestReport ≤ length o) {p : List ℕ} {a 
   place-same : a .place ≡ fileRefusal f .place
   place-same = ap (λ (v : LengthAnswer). v .place) (w .answer) ∙ ap (λ (r : Refusal). r .place) (report-roomy f (length o) room)
 
-  pub prints-report : a .number ≡ 0 → Front (printed f) p (a .length)
+  pub prints-report : a .number ≡ 0 → take (a .length) p ≡ printed f
   unfolding printed
   prints-report z =
       let h = report-written f o p a w (sym (ap (λ (v : LengthAnswer). v .number) (w .answer)) ∙ z) in
@@ -52,7 +46,7 @@ module _ (f o : List ℕ) (room : longestReport ≤ length o) {p : List ℕ} {a 
         kept : (k : ℕ) → (k ≡ 0 → ⊥) → cond (eqb k 0) (reportText f ++ drop (length (reportText f)) o) o ≡ o
         kept k m = simp (ne-eqb k 0 m)
 
-    pub prints-refusal : {q : List ℕ} {b : LengthAnswer} → a .number < 2 ^ 32 → a .place < 2 ^ 32 → Output (roomCheck (length (refusalText (a .number) (a .place))) (length p)) (refusalText (a .number) (a .place)) p q b → Front (printed f) q (b .length)
+    pub prints-refusal : {q : List ℕ} {b : LengthAnswer} → a .number < 2 ^ 32 → a .place < 2 ^ 32 → Output (roomCheck (length (refusalText (a .number) (a .place))) (length p)) (refusalText (a .number) (a .place)) p q b → take (b .length) q ≡ printed f
     unfolding printed
     prints-refusal hn hl v =
         let long : 30 ≤ length p = omega (arith, ap length untouched) in
