@@ -2,53 +2,43 @@
 --   longestFile      the longest file that 1 lets pass
 --   Holds i b n      the first n of the bytes b are all that b has room for of the input i
 --   Answers b n t    the text t is what is to be printed of every input that b holds so
---   prints-too-long  of an input above that length the line of 1 is printed
---   front-enough     so a front that is longer tells what is to be printed of the whole input
---   answers-exactly  and what is printed of the bytes read is what is to be printed of the input, however much of it was left
+--   prints-too-long  of an input above that length the line of 1 at 0 is printed
+--   front-enough     so a front above that length tells what is to be printed of the whole input
+--   answers-exactly  and what is printed of the bytes held is what is to be printed of the input, however much of it was left unread
 use mathlib.Core.Path.{_≡_, refl, sym, ap, _∙_}
-use mathlib.Core.Bool.{cond}
 use mathlib.Core.Logic.{_↔_, inl, inr, by-cases}
 use mathlib.Core.List.{List}
 use Prim.Native.Nat.{ℕ, _≤_, _<_}
 use native.Mathlib.Decide.{decLt}
-use native.Mathlib.Nat.{le-refl}
 use native.Mathlib.Omega.{arith}
-use lib.Dec.{eqb}
 use lib.ListN.{length, take}
 use lib.Seq.{length-take-le, take-all}
-use Rattle.ardenquill.specs.Chains.{refused}
-use Rattle.ardenquill.specs.Files.{readRefusal, read-1}
-use Rattle.ardenquill.specs.Reports.{reportText, refusalText, fileRefusal, longestReport, report-roomy, report-as-read}
-use Rattle.ardenquill.specs.Records.{Refusal}
+use Rattle.promises.specs.FileInBytes.{read-length}
+use Rattle.promises.specs.Columns.{IsRefusal, refusal-is}
 use Rattle.chainreport.specs.Printed.{printed}
+use Rattle.chainreport.specs.PrintedInColumns.{prints-as-read}
 
 abbrev pub longestFile : ℕ
 longestFile = 4096
 
--- the whole input where it fits
 abbrev pub Holds : List ℕ → List ℕ → ℕ → Type 0
 Holds i b n = take n b ≡ take (length b) i
 
 abbrev pub Answers : List ℕ → ℕ → List ℕ → Type 0
 Answers b n t = (i : List ℕ) → Holds i b n → t ≡ printed i
 
-pub prints-too-long : (f : List ℕ) → longestFile < length f → printed f ≡ refusalText 1 0
-unfolding printed
-prints-too-long f l = ap shown (sym (report-roomy f longestReport (le-refl _)) ∙ report-as-read f longestReport speaks ∙ read)
-  where
-    shown : Refusal → List ℕ
-    shown r = cond (eqb (r .number) 0) (reportText f) (refusalText (r .number) (r .place))
-
-    read : readRefusal f ≡ refused 1 0
-    read = read-1 f 0 .1 (inl (inr l), refl)
-
-    speaks : readRefusal f .number ≡ 0 → ⊥
-    speaks z = omega (arith, sym (ap (λ (r : Refusal). r .number) read) ∙ z)
+pub prints-too-long : (f : List ℕ) → longestFile < length f → IsRefusal 1 0 (printed f)
+prints-too-long f l =
+    let read = read-length f 0 .1 (inr (inl l), refl) in
+    rw (← read .0, ← read .1) (prints-as-read f (λ z. omega (arith, sym (read .0) ∙ z)))
 
 pub front-enough : (i : List ℕ) (m : ℕ) → longestFile < m → printed (take m i) ≡ printed i
-front-enough i m l = by-cases (decLt m (length i))
-    (λ over. prints-too-long (take m i) (omega (arith, length-take-le m i (omega arith))) ∙ sym (prints-too-long i (omega arith)))
-    (λ fits. ap printed (take-all m i (omega (arith, fits))))
+front-enough i m l = by-cases (decLt m (length i)) over (λ fits. ap printed (take-all m i (omega (arith, fits))))
+  where
+    over : m < length i → printed (take m i) ≡ printed i
+    over k =
+        let front = prints-too-long (take m i) (omega (arith, length-take-le m i (omega arith))) in
+        refusal-is 1 0 _ .0 front ∙ sym (refusal-is 1 0 _ .0 (prints-too-long i (omega arith)))
 
 pub answers-exactly : (b t : List ℕ) (n : ℕ) → longestFile < length b → n ≤ length b → Answers b n t ↔ (t ≡ printed (take n b))
 answers-exactly b t n long l = (
