@@ -1,6 +1,6 @@
 -- How much of its input the program has to hold (01, Report program: "reads a chain file from standard input").
 --   longestFile      the longest file that 1 lets pass
---   Holds i b n      the first n of the bytes b are all that b has room for of the input i
+--   Holds i b n      the first n of the bytes b are what b has room for of the input i
 --   Answers b n t    the text t is what is to be printed of every input that b holds so
 --   prints-too-long  of an input above that length the line of 1 at 0 is printed
 --   front-enough     so a front above that length tells what is to be printed of the whole input
@@ -18,12 +18,15 @@ use Rattle.promises.specs.Columns.{IsRefusal, refusal-is}
 use Rattle.chainreport.specs.Printed.{printed}
 use Rattle.chainreport.specs.PrintedInColumns.{prints-as-read}
 
+-- 1: "length under 20 or over 4,096"
 abbrev pub longestFile : ℕ
 longestFile = 4096
 
+-- the whole input, or as much of it as fills b
 abbrev pub Holds : List ℕ → List ℕ → ℕ → Type 0
 Holds i b n = take n b ≡ take (length b) i
 
+-- nothing is known of an input but what b holds of it, so the text must be right for all of them
 abbrev pub Answers : List ℕ → ℕ → List ℕ → Type 0
 Answers b n t = (i : List ℕ) → Holds i b n → t ≡ printed i
 
