@@ -1,10 +1,11 @@
 /* How a configurator uses the library: it shows the report on a chain file, tries thresholds for the first queue as a
  * slider would, and writes the chain with the one that it chose to a second file, if one is named.
  *
- * On x86-64, after `make lib`:
+ * After `make lib` (README.md says what is different on another processor than x86-64):
  *     gcc -std=c99 -Iinclude examples/configurator.c target/staticlib/libardenquill.a -o configurator
  *     ./configurator chains/feed.chain chosen.chain
- * It prints configurator.out then, and chosen.chain is configurator.chain. */
+ * It prints configurator.out then, and chosen.chain is configurator.chain. It ends with status 1 where the file is
+ * refused, or a file cannot be read or written. */
 #include <stdio.h>
 
 #include "ardenquill.h"
@@ -13,32 +14,22 @@
 #define ROOM 12
 #define SLIDER_END 10
 
-/* Prints the number and place of a refusal as the report program does, and what it means. */
+/* Prints the number and place of a refusal as the report program does, and what is wrong. */
 static void print_refusal(uint32_t number, uint32_t place)
 {
-    const char *meaning = "see ardenquill.h";
-    switch (number) {
-    case ARDENQUILL_BAD_LENGTH: meaning = "this is no chain file, its length is wrong"; break;
-    case ARDENQUILL_BAD_COUNT: meaning = "a chain has 1 to 16 queues"; break;
-    case ARDENQUILL_BAD_TABLE: meaning = "the offset at this byte puts a table where it cannot be"; break;
-    case ARDENQUILL_BAD_FIELD: meaning = "the word at this byte is out of its range"; break;
-    case ARDENQUILL_BAD_CONSUME: meaning = "the word at this byte takes more than the threshold waits for"; break;
-    case ARDENQUILL_RATE_TOO_LARGE: meaning = "the rate of this node has too large a number"; break;
-    case ARDENQUILL_OVERLOADED: meaning = "the nodes have more work than time"; break;
-    case ARDENQUILL_NO_ROOM: meaning = "the result has this many bytes"; break;
-    }
-    printf("refused,%lu,%lu: %s\n", (unsigned long)number, (unsigned long)place, meaning);
+    printf("refused,%lu,%lu: %s\n", (unsigned long)number, (unsigned long)place, ardenquill_refusal_text(number));
 }
 
-/* Prints the report on a file. The text has no zero byte at its end; its length is in the answer. */
+/* Prints the report on a file, or why there is none. Whether there is one. The text has no zero byte at its end; its
+ * length is in the answer. */
 static int print_report(const uint8_t *file, size_t length)
 {
     uint8_t text[ARDENQUILL_MAX_REPORT_LENGTH];
     struct ardenquill_length_answer report = ardenquill_report(file, length, text, sizeof text);
-    if (report.number != 0)
+    if (report.number != ARDENQUILL_NOT_REFUSED)
         print_refusal(report.number, report.place);
     fwrite(text, 1, (size_t)report.length, stdout);
-    return report.number == 0;
+    return report.number == ARDENQUILL_NOT_REFUSED;
 }
 
 /* Tries every threshold of the slider on the chain's first queue. The highest whose minimum fits ROOM, or, where none
@@ -50,7 +41,7 @@ static uint32_t choose_threshold(struct ardenquill_chain trial)
         trial.queues[0].threshold = threshold;
         struct ardenquill_analysis_answer answer = ardenquill_analyse(trial);
         printf("threshold %lu: ", (unsigned long)threshold);
-        if (answer.number != 0) {
+        if (answer.number != ARDENQUILL_NOT_REFUSED) {
             print_refusal(answer.number, answer.place);
             continue;
         }
@@ -87,12 +78,13 @@ int main(int count, char **arguments)
 
     /* The chosen chain becomes a file again; its report is shown before it is kept. */
     struct ardenquill_length_answer written = ardenquill_write(chain, bytes, sizeof bytes);
-    if (written.number != 0) {
+    if (written.number != ARDENQUILL_NOT_REFUSED) {
         print_refusal(written.number, written.place);
         return 1;
     }
     length = (size_t)written.length;
-    print_report(bytes, length);
+    if (!print_report(bytes, length))
+        return 1;
     if (count == 2)
         return 0;
     file = fopen(arguments[2], "wb");

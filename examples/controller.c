@@ -2,18 +2,20 @@
  * chain Feed with the execution time that is given, starts afresh, makes so many ticks, and shows the state after each
  * in which a node has fired, and why it stops where it stops early.
  *
- * On x86-64, after `make lib`:
+ * After `make lib` (README.md says what is different on another processor than x86-64):
  *     gcc -std=c99 -Iinclude examples/controller.c target/staticlib/libardenquill.a -o controller
  *     ./controller 7 60
- * It prints controller.out then: with an execution time of 7 the load is 28 of 30, and yet the queue overflows. */
+ * It prints controller.out then: with an execution time of 7 the load is 28 of 30, and yet the queue overflows. It ends
+ * with status 0 where all ticks were made, 3 where a tick had another outcome than clean, as here, and 1 where a call
+ * was refused, as with an execution time of 8. */
 #include <stdio.h>
 #include <stdlib.h>
 #include <string.h>
 
 #include "ardenquill.h"
 
-/* The factory chain Feed. */
-#define FEED 0
+/* What the program ends with. */
+enum status { ALL_MADE = 0, REFUSED = 1, MISUSED = 2, STOPPED = 3 };
 
 /* What the controller has: the chain, and the one state that is lent to each tick. */
 struct controller {
@@ -34,23 +36,28 @@ static void print_state(const struct controller *controller)
     printf("\n");
 }
 
-/* Makes one tick. Answers whether the controller may go on, and says why where it may not. */
-static int go_on(struct controller *controller)
+/* Says why a call was refused. */
+static enum status refused(uint32_t number, uint32_t place)
+{
+    printf("refused,%lu,%lu: %s\n", (unsigned long)number, (unsigned long)place, ardenquill_refusal_text(number));
+    return REFUSED;
+}
+
+/* Makes one tick, and says why the controller may not go on where it may not. */
+static enum status make_tick(struct controller *controller)
 {
     struct ardenquill_outcome outcome = ardenquill_tick(&controller->chain, &controller->run);
-    if (outcome.number != 0) {
-        printf("refused,%lu,%lu\n", (unsigned long)outcome.number, (unsigned long)outcome.place);
-        return 0;
-    }
+    if (outcome.number != ARDENQUILL_NOT_REFUSED)
+        return refused(outcome.number, outcome.place);
     switch (outcome.kind) {
     case ARDENQUILL_CLEAN:
-        return 1;
+        return ALL_MADE;
     case ARDENQUILL_OVERFLOWED:
         printf("tick %lu: queue %lu has no room\n", (unsigned long)outcome.tick, (unsigned long)outcome.at);
-        return 0;
+        return STOPPED;
     default:
         printf("tick %lu: node %lu has no deadline\n", (unsigned long)outcome.tick, (unsigned long)outcome.at);
-        return 0;
+        return STOPPED;
     }
 }
 
@@ -61,7 +68,7 @@ static uint32_t number_of(const char *text)
     unsigned long number = strtoul(text, &end, 10);
     if (end == text || *end != '\0' || number > UINT32_MAX) {
         fprintf(stderr, "controller: no number of 32 bits: %s\n", text);
-        exit(2);
+        exit(MISUSED);
     }
     return (uint32_t)number;
 }
@@ -70,25 +77,23 @@ int main(int count, char **arguments)
 {
     if (count != 3) {
         fprintf(stderr, "usage: controller EXECUTION-TIME TICKS\n");
-        return 2;
+        return MISUSED;
     }
     struct controller controller;
-    controller.chain = ardenquill_factory(FEED).chain;
+    controller.chain = ardenquill_factory(ARDENQUILL_FEED).chain;
     controller.chain.work[0] = number_of(arguments[1]);
     uint32_t ticks = number_of(arguments[2]);
 
     struct ardenquill_run_answer fresh = ardenquill_fresh(controller.chain);
-    if (fresh.number != 0) {
-        printf("refused,%lu,%lu\n", (unsigned long)fresh.number, (unsigned long)fresh.place);
-        return 0;
-    }
+    if (fresh.number != ARDENQUILL_NOT_REFUSED)
+        return refused(fresh.number, fresh.place);
     controller.run = fresh.run;
-    for (uint32_t t = 0; t < ticks; t++) {
+    enum status status = ALL_MADE;
+    for (uint32_t t = 0; t < ticks && status == ALL_MADE; t++) {
         const struct ardenquill_run before = controller.run;
-        if (!go_on(&controller))
-            break;
+        status = make_tick(&controller);
         if (memcmp(before.counts, controller.run.counts, sizeof before.counts) != 0)
             print_state(&controller);
     }
-    return 0;
+    return status;
 }

@@ -2,17 +2,14 @@
  * one after the other, and shows how far the run is after each, or why the node did not fire. At the end it lets an
  * immediate run fire the source as often.
  *
- * On x86-64, after `make lib`:
+ * After `make lib` (README.md says what is different on another processor than x86-64):
  *     gcc -std=c99 -Iinclude examples/firing.c target/staticlib/libardenquill.a -o firing
  *     ./firing 1 0 0 0 1 0 0 1 0 1 1 1 2
- * It prints firing.out then. */
+ * It prints firing.out then, and ends with status 1, as it does where any call was refused. */
 #include <stdio.h>
 #include <stdlib.h>
 
 #include "ardenquill.h"
-
-/* The factory chain Feed. */
-#define FEED 0
 
 /* Prints how often each node has fired and what each queue holds. */
 static void print_run(const struct ardenquill_chain *chain, const struct ardenquill_run *run)
@@ -26,23 +23,22 @@ static void print_run(const struct ardenquill_chain *chain, const struct ardenqu
     printf("\n");
 }
 
-/* Prints the number and place of a refusal, and what it means. */
-static void print_refusal(uint32_t number, uint32_t place)
+/* Prints the run state that a call has given, or why it was refused. Whether it was not. */
+static int print_answer(const struct ardenquill_chain *chain, const struct ardenquill_run_answer *answer)
 {
-    const char *meaning = "see ardenquill.h";
-    switch (number) {
-    case ARDENQUILL_BELOW_MINIMUM: meaning = "this queue has too little room for a run"; break;
-    case ARDENQUILL_TOO_LONG: meaning = "this node has fired too often, or would"; break;
-    case ARDENQUILL_CANNOT_FIRE: meaning = "there is no such node, or too few tokens wait for it"; break;
-    case ARDENQUILL_QUEUE_FULL: meaning = "there is too little room in this queue"; break;
-    case ARDENQUILL_BAD_RUN: meaning = "the run state is damaged at this queue"; break;
+    if (answer->number == ARDENQUILL_NOT_REFUSED) {
+        print_run(chain, &answer->run);
+        return 1;
     }
-    printf("refused,%lu,%lu: %s\n", (unsigned long)number, (unsigned long)place, meaning);
+    printf("refused,%lu,%lu: %s\n", (unsigned long)answer->number, (unsigned long)answer->place,
+           ardenquill_refusal_text(answer->number));
+    return 0;
 }
 
 int main(int count, char **arguments)
 {
-    const struct ardenquill_chain chain = ardenquill_factory(FEED).chain;
+    const struct ardenquill_chain chain = ardenquill_factory(ARDENQUILL_FEED).chain;
+    int accepted = 1;
 
     /* A factory chain is accepted, so a fresh start is not refused. A run state is a plain value that the program
      * keeps: each firing takes it and gives the next, and a refused one gives it back as it was. */
@@ -57,18 +53,12 @@ int main(int count, char **arguments)
         uint32_t node = (uint32_t)number;
         struct ardenquill_run_answer answer = ardenquill_fire(chain, run, node);
         printf("node %lu: ", (unsigned long)node);
-        if (answer.number != 0)
-            print_refusal(answer.number, answer.place);
-        else
-            print_run(&chain, &answer.run);
+        accepted = print_answer(&chain, &answer) && accepted;
         run = answer.run;
     }
 
     struct ardenquill_run_answer answer = ardenquill_immediate(chain, run.counts[0]);
     printf("immediate: ");
-    if (answer.number != 0)
-        print_refusal(answer.number, answer.place);
-    else
-        print_run(&chain, &answer.run);
-    return 0;
+    accepted = print_answer(&chain, &answer) && accepted;
+    return accepted ? 0 : 1;
 }

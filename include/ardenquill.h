@@ -12,10 +12,15 @@
  *
  * A length of 0 may come with any pointer; else the pointer must lead to that many bytes, which the call may
  * read (a file) or write (an out). A pointer to a chain or a run must lead to one. A file and an out that are handed
- * to one call must not overlap, nor may a chain and a run. No call allocates memory or keeps anything between calls;
- * calls on different memory may run at the same time.
+ * to one call must not overlap, nor may a chain and a run. No call allocates memory or keeps anything between calls.
+ * Calls may run at the same time unless one of them writes what another is lent: a chain or a file that nobody writes
+ * to may be lent to several threads at once, a run and an out belong to one call at a time.
  *
- * Library and header are one release: use them together. The library is x86-64 code.
+ * docs/FORMAT.md has the chain file word by word. Two of its words stand below: the total word is the fifth and last
+ * word of the file's header, which says how many bytes the whole file has; a packed file is one with the queue table
+ * right behind the header, at byte 20, the node table right behind that, and nothing else.
+ *
+ * Library and header are one release: use them together. The library is x86-64 code; the header is C99 and C++11.
  */
 #ifndef ARDENQUILL_H
 #define ARDENQUILL_H
@@ -27,6 +32,13 @@
 extern "C" {
 #endif
 
+/* The release that header and library are of; CHANGELOG.md says what each changed. MAJOR grows where a program over the
+ * library has to change, MINOR where something is added, PATCH otherwise. */
+#define ARDENQUILL_VERSION_MAJOR 1
+#define ARDENQUILL_VERSION_MINOR 1
+#define ARDENQUILL_VERSION_PATCH 0
+#define ARDENQUILL_VERSION "1.1.0"
+
 /* The most queues that a chain has, and so the slots of a chain. */
 #define ARDENQUILL_MAX_QUEUES 16
 
@@ -34,15 +46,25 @@ extern "C" {
 #define ARDENQUILL_MIN_FILE_LENGTH 20
 #define ARDENQUILL_MAX_FILE_LENGTH 4096
 
-/* The bytes that ardenquill_write writes for a chain of n queues, n from 1 to 16. */
+/* The bytes of the packed file of a chain of n queues, n from 1 to 16, which is what ardenquill_write writes. */
 #define ARDENQUILL_PACKED_LENGTH(n) (20 + 24 * (n))
 
 /* Room in bytes that every report fits: 34 for the first line, 67 for each of 16 queues, 27 for the last line. It
  * counts every number as long as 32 bits can be; no report fills it. */
 #define ARDENQUILL_MAX_REPORT_LENGTH 1133
 
-/* The numbers that a call is refused with, each with what its place says. */
+/* The chains that are fixed in the product, by the number that ardenquill_factory is asked for. */
+enum ardenquill_factory_chain {
+    ARDENQUILL_FEED = 0,
+    ARDENQUILL_PERMEATE = 1,
+    ARDENQUILL_FLUSH = 2
+};
+
+/* The numbers that a call is refused with, each with what its place says; ardenquill_refusal_text has a sentence for
+ * each. */
 enum ardenquill_refusal {
+    /* The call was not refused. Place 0. */
+    ARDENQUILL_NOT_REFUSED = 0,
     /* The file is shorter than 20 or longer than 4,096 bytes, or its total word is not its length. Place 0. */
     ARDENQUILL_BAD_LENGTH = 1,
     /* n is 0 or above 16. Place 0. */
@@ -51,9 +73,11 @@ enum ardenquill_refusal {
      * table, tested first, 12 for the node table. Or the two tables overlap: place 12. */
     ARDENQUILL_BAD_TABLE = 3,
     /* A field is out of its range: the period, then the queues in order and each in the order of its fields,
-     * then the execution times. Place: the byte offset of that word in the file. */
+     * then the execution times. Place: the byte offset of that word in the file; for a chain that was handed in as a
+     * struct, in its packed file: 4 is the period, 20+20i+4f field f of queue i (0 produce, 1 threshold, 2 consume,
+     * 3 capacity, 4 reserved), 20+20n+4i the execution time of N_(i+1). */
     ARDENQUILL_BAD_FIELD = 4,
-    /* A queue's consume is above its threshold. Place: the byte offset of that word in the file. */
+    /* A queue's consume is above its threshold. Place: the byte offset of consume, as for 4. */
     ARDENQUILL_BAD_CONSUME = 5,
     /* An x or a y of a node's rate is above 4,294,967,295. Place: the lowest such node, i for N_i. */
     ARDENQUILL_RATE_TOO_LARGE = 6,
@@ -236,7 +260,7 @@ struct ardenquill_chain_answer ardenquill_read(const uint8_t *file, size_t file_
  * are offsets in the packed file. Room of exactly 20+24n bytes is enough. */
 struct ardenquill_length_answer ardenquill_write(struct ardenquill_chain chain, uint8_t *out, size_t out_length);
 
-/* Gives a chain that is fixed in the product: 0 Feed, 1 Permeate, 2 Flush. Refuses every other number with 14.
+/* Gives a chain that is fixed in the product: see enum ardenquill_factory_chain. Refuses every other number with 14.
  * Writes nothing. */
 struct ardenquill_chain_answer ardenquill_factory(uint32_t number);
 
@@ -313,6 +337,33 @@ struct ardenquill_outcome ardenquill_tick(const struct ardenquill_chain *chain, 
  * Refuses with 2, 4, 5, 6, 7, 8, 9, in this order, 9 where ticks is above 1,000,000; then kind, tick, at and the whole
  * state are 0. The places of 4 and 5 are offsets in the packed file. Writes nothing. */
 struct ardenquill_outcome_run ardenquill_deadline_run(struct ardenquill_chain chain, uint32_t ticks);
+
+/* Gives a sentence for people, without a full stop, on any number that a call has given. The text stays where it is for
+ * as long as the program runs. README.md says for each number what to do about it. */
+static inline const char *ardenquill_refusal_text(uint32_t number)
+{
+    switch (number) {
+    case ARDENQUILL_NOT_REFUSED: return "not refused";
+    case ARDENQUILL_BAD_LENGTH:
+        return "the file's length is under 20 or over 4,096 bytes, or is not what its total word says";
+    case ARDENQUILL_BAD_COUNT: return "the number of queues is 0 or above 16";
+    case ARDENQUILL_BAD_TABLE:
+        return "a table lies outside the file, inside its header, not at a multiple of 4, or over the other table";
+    case ARDENQUILL_BAD_FIELD: return "a number of the chain is out of its range";
+    case ARDENQUILL_BAD_CONSUME: return "a queue's consume is above its threshold";
+    case ARDENQUILL_RATE_TOO_LARGE: return "a rate has a number above 4,294,967,295";
+    case ARDENQUILL_OVERLOADED: return "the nodes have more work in a cycle than it has ticks";
+    case ARDENQUILL_BELOW_MINIMUM: return "a capacity is below the minimum";
+    case ARDENQUILL_TOO_LONG: return "the run is too long, or a node has fired too often";
+    case ARDENQUILL_NO_ROOM: return "the memory lent is too short";
+    case ARDENQUILL_CANNOT_FIRE: return "there is no such node, the index is 0, or the node is below its threshold";
+    case ARDENQUILL_QUEUE_FULL: return "a manual firing would pass a capacity";
+    case ARDENQUILL_INDEX_TOO_LARGE: return "a deadline's index passes 4,294,967,295";
+    case ARDENQUILL_NO_FACTORY_CHAIN: return "there is no such factory chain";
+    case ARDENQUILL_BAD_RUN: return "the run state is damaged, or belongs to another chain";
+    default: return "no call refuses with this number";
+    }
+}
 
 #ifdef __cplusplus
 }

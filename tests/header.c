@@ -1,7 +1,10 @@
 /* Checks that the library and include/ardenquill.h agree: the layout of every struct, and what the calls give and
- * write when they are called from C or C++. */
+ * write when they are called from C or C++. And that the header agrees with what its users read: the text of each
+ * refusal is the one in README's table, and README and the newest entry of the change log name the header's version.
+ *     header README.md CHANGELOG.md */
 #include <stdarg.h>
 #include <stdio.h>
+#include <stdlib.h>
 #include <string.h>
 
 #include "ardenquill.h"
@@ -80,6 +83,12 @@
 
 /* The same for the longest report. */
 #define REPORT_ROOM (ARDENQUILL_MAX_REPORT_LENGTH + 16)
+
+/* Room for a line of README.md or CHANGELOG.md, the highest number that is tried for a text, and the longest text that
+ * fits a line of a log. */
+#define LINE_ROOM 4096
+#define HIGHEST_NUMBER 65536
+#define LONGEST_TEXT 100
 
 /* What every byte of a buffer is before a call. */
 #define UNTOUCHED 0xa5
@@ -971,7 +980,8 @@ static void check_stuck(const char *what, struct ardenquill_chain chain, struct 
     }
 }
 
-/* Checks the ticks of Feed, of Feed with an execution time of 7 up to its overflow, and of a chain without a deadline. */
+/* Checks the ticks of Feed, of Feed with an execution time of 7 up to its overflow and, with more room, on from there,
+ * and of a chain without a deadline. */
 static void check_ticks(void)
 {
     const struct ardenquill_outcome overflowed = {0, 0, ARDENQUILL_OVERFLOWED, 40, 0};
@@ -983,6 +993,10 @@ static void check_ticks(void)
     chain.work[0] = 7;
     check_clean_ticks("Feed with 7", chain, &run, 40);
     check_stuck("Feed with 7, overflow", chain, run, overflowed);
+    chain.queues[0].capacity = 12;
+    for (int t = 40; t < 90; t++)
+        check_lent("Feed with 7, more room after the overflow", chain, &run, outcome_clean);
+    check_run("Feed with 7, more room after the overflow", run, feed_run(90, 9, 10, 6, 0));
     chain = chain_of(&far_ahead);
     check_stuck("no deadline", chain, ardenquill_deadline_run(chain, 4296).run, no_deadline);
 }
@@ -1135,12 +1149,94 @@ static void check_last_counts(void)
     check_fire_refused("source's last of a damaged run", chain, run, 0, ARDENQUILL_BAD_RUN, 1);
 }
 
-int main(void)
+/* Opens a file to be read; ends the program where that fails. */
+static FILE *opened(const char *path)
 {
+    FILE *file = fopen(path, "r");
+    if (file == NULL) {
+        perror(path);
+        exit(2);
+    }
+    return file;
+}
+
+/* The text of a row "| NUMBER | TEXT | ..", with the row's number; null if the line is none. The line is cut behind the
+ * text. */
+static const char *text_in_row(char *line, unsigned long *number)
+{
+    char *end;
+    if (strncmp(line, "| ", 2) != 0)
+        return NULL;
+    *number = strtoul(line + 2, &end, 10);
+    if (end == line + 2 || strncmp(end, " | ", 3) != 0)
+        return NULL;
+    char *text = end + 3;
+    end = strstr(text, " | ");
+    if (end == NULL)
+        return NULL;
+    *end = '\0';
+    return text;
+}
+
+/* Checks that the numbers in README's table are the ones that have a text of their own, 0 apart, and that it is the
+ * table's. */
+static void check_texts(const char *readme)
+{
+    static char line[LINE_ROOM], listed[HIGHEST_NUMBER + 1];
+    const char *other = ardenquill_refusal_text(UINT32_MAX);
+    FILE *file = opened(readme);
+    while (fgets(line, sizeof line, file) != NULL) {
+        unsigned long number;
+        const char *text = text_in_row(line, &number);
+        if (text == NULL)
+            continue;
+        check(strcmp(text, ardenquill_refusal_text((uint32_t)number)) == 0, "text of %lu is: %s", number, text);
+        check(strlen(text) <= LONGEST_TEXT, "text of %lu fits a line", number);
+        check(number > 0 && number <= HIGHEST_NUMBER && !listed[number], "%lu stands once in the table", number);
+        listed[number <= HIGHEST_NUMBER ? number : 0] = 1;
+    }
+    fclose(file);
+    check(strcmp(ardenquill_refusal_text(ARDENQUILL_NOT_REFUSED), other) != 0, "0 has a text of its own");
+    for (uint32_t number = 1; number <= HIGHEST_NUMBER; number++)
+        if ((strcmp(ardenquill_refusal_text(number), other) != 0) != (listed[number] != 0))
+            check(0, "%lu has a text of its own exactly where the table has it", (unsigned long)number);
+    check(listed[ARDENQUILL_BAD_LENGTH] && listed[ARDENQUILL_BAD_RUN], "the table was found");
+}
+
+/* Whether the first line of a file that begins with opening begins with due. */
+static int is_first(const char *path, const char *opening, const char *due)
+{
+    static char line[LINE_ROOM];
+    int found = 0;
+    FILE *file = opened(path);
+    while (!found && fgets(line, sizeof line, file) != NULL)
+        found = strncmp(line, opening, strlen(opening)) == 0;
+    fclose(file);
+    return found && strncmp(line, due, strlen(due)) == 0;
+}
+
+/* Checks that the version is the same as numbers, as text, in README and in the newest entry of the change log. */
+static void check_version(const char *readme, const char *changes)
+{
+    char numbers[40];
+    sprintf(numbers, "%d.%d.%d", ARDENQUILL_VERSION_MAJOR, ARDENQUILL_VERSION_MINOR, ARDENQUILL_VERSION_PATCH);
+    check(strcmp(numbers, ARDENQUILL_VERSION) == 0, "version is %s", numbers);
+    check(is_first(readme, "This is version ", "This is version " ARDENQUILL_VERSION ";"), "version in %s", readme);
+    check(is_first(changes, "## ", "## " ARDENQUILL_VERSION "\n"), "newest version in %s", changes);
+}
+
+int main(int count, char **arguments)
+{
+    if (count != 3) {
+        fputs("usage: header README.md CHANGELOG.md\n", stderr);
+        return 2;
+    }
     LAYOUT(SIZE_CHECKED, OFFSET_CHECKED)
-    check_factory("factory 0", 0, &feed, feed_sizes);
-    check_factory("factory 1", 1, &permeate, permeate_sizes);
-    check_factory("factory 2", 2, &flush, flush_sizes);
+    check_texts(arguments[1]);
+    check_version(arguments[1], arguments[2]);
+    check_factory("factory 0", ARDENQUILL_FEED, &feed, feed_sizes);
+    check_factory("factory 1", ARDENQUILL_PERMEATE, &permeate, permeate_sizes);
+    check_factory("factory 2", ARDENQUILL_FLUSH, &flush, flush_sizes);
     check_round_trip("16 queues", told_apart());
     check_read_refusals();
     check_write_refusals();
