@@ -84,6 +84,9 @@
 /* The same for the longest report. */
 #define REPORT_ROOM (ARDENQUILL_MAX_REPORT_LENGTH + 16)
 
+/* What README's table of refusals begins with. */
+#define TABLE "| number | what is wrong | "
+
 /* Room for a line of README.md or CHANGELOG.md, the highest number that is tried for a text, and the longest text that
  * fits a line of a log. */
 #define LINE_ROOM 4096
@@ -1178,29 +1181,41 @@ static const char *text_in_row(char *line, unsigned long *number)
     return text;
 }
 
-/* Checks that the numbers in README's table are the ones that have a text of their own, 0 apart, and that it is the
- * table's. */
-static void check_texts(const char *readme)
+/* Checks that the texts in README's table are those of their numbers, and marks these numbers as listed. */
+static void check_table(const char *readme, char *listed)
 {
-    static char line[LINE_ROOM], listed[HIGHEST_NUMBER + 1];
-    const char *other = ardenquill_refusal_text(UINT32_MAX);
+    static char line[LINE_ROOM];
+    int inside = 0;
     FILE *file = opened(readme);
     while (fgets(line, sizeof line, file) != NULL) {
         unsigned long number;
-        const char *text = text_in_row(line, &number);
+        inside = strncmp(line, TABLE, strlen(TABLE)) == 0 || (inside && line[0] == '|');
+        const char *text = inside ? text_in_row(line, &number) : NULL;
         if (text == NULL)
             continue;
+        check(number > 0 && number <= HIGHEST_NUMBER && !listed[number], "%lu stands once in the table", number);
         check(strcmp(text, ardenquill_refusal_text((uint32_t)number)) == 0, "text of %lu is: %s", number, text);
         check(strlen(text) <= LONGEST_TEXT, "text of %lu fits a line", number);
-        check(number > 0 && number <= HIGHEST_NUMBER && !listed[number], "%lu stands once in the table", number);
-        listed[number <= HIGHEST_NUMBER ? number : 0] = 1;
+        if (number <= HIGHEST_NUMBER)
+            listed[number] = 1;
     }
     fclose(file);
-    check(strcmp(ardenquill_refusal_text(ARDENQUILL_NOT_REFUSED), other) != 0, "0 has a text of its own");
-    for (uint32_t number = 1; number <= HIGHEST_NUMBER; number++)
-        if ((strcmp(ardenquill_refusal_text(number), other) != 0) != (listed[number] != 0))
-            check(0, "%lu has a text of its own exactly where the table has it", (unsigned long)number);
-    check(listed[ARDENQUILL_BAD_LENGTH] && listed[ARDENQUILL_BAD_RUN], "the table was found");
+}
+
+/* Checks that the numbers in README's table, and 0, are the ones that have a text of their own, and that it is the
+ * table's. */
+static void check_texts(const char *readme)
+{
+    static char listed[HIGHEST_NUMBER + 1];
+    const char *other = ardenquill_refusal_text(UINT32_MAX);
+    check_table(readme, listed);
+    check(listed[ARDENQUILL_BAD_LENGTH], "the table was found");
+    listed[ARDENQUILL_NOT_REFUSED] = 1;
+    for (uint32_t number = 0; number <= HIGHEST_NUMBER; number++) {
+        int own = strcmp(ardenquill_refusal_text(number), other) != 0;
+        if (own != listed[number])
+            check(0, "%lu has a text of its own: %d", (unsigned long)number, (int)listed[number]);
+    }
 }
 
 /* Whether the first line of a file that begins with opening begins with due. */
