@@ -16,9 +16,9 @@
  * Calls may run at the same time unless one of them writes what another is lent: a chain or a file that nobody writes
  * to may be lent to several threads at once, a run and an out belong to one call at a time.
  *
- * docs/FORMAT.md has the chain file word by word. Two of its words stand below: the total word is the fifth and last
- * word of the file's header, which says how many bytes the whole file has; a packed file is one with the queue table
- * right behind the header, at byte 20, the node table right behind that, and nothing else.
+ * docs/FORMAT.md has the chain file word by word. Two of its names are used below: the total word is the fifth and last
+ * word of a file's header, which says how many bytes the whole file has; a packed file has its queue table right behind
+ * the header, at byte 20, its node table right behind that, and nothing else.
  *
  * Library and header are one release: use them together. The library is x86-64 code; the header is C99 and C++11.
  */
