@@ -1,1 +1,4 @@
-mod Reading
+pub mod Taking
+pub mod Reading
+pub mod Calling
+pub mod Elements

@@ -19,7 +19,7 @@ use lib.Dec.{leb}
 use borrow.Author.Tests.{le-leb, lt-leb}
 use lib.ListN.{length}
 use Rattle.words.specs.Flat.{flat}
-use Rattle.words.specs.Words.{bytesOf, fourAt, wordAt, word-there, bytes-append, Bytes, part, part-add, word-back, Alike, word-alike}
+use Rattle.words.specs.Words.{bytesOf, wordAt, bytes-append, Bytes, part, part-add, word-back, Alike, word-alike}
 use Rattle.words.specs.declared.Queue.{Queue}
 
 -- the row of a slot that no queue has
@@ -49,14 +49,9 @@ row-past s at h = simp (lt-leb _ _ h)
 pub same-row : {q r : Queue} → q .produce ≡ r .produce → q .threshold ≡ r .threshold → q .consume ≡ r .consume → q .capacity ≡ r .capacity → q .reserved ≡ r .reserved → q ≡ r
 same-row a b c d e = λ i. record { produce = a i; threshold = b i; consume = c i; capacity = d i; reserved = e i }
 
-pub row-made : (s : List ℕ) (at p τ c b z : ℕ) → at + 20 ≤ length s → p ≡ fourAt s at → τ ≡ fourAt s (at + 4) → c ≡ fourAt s (at + 8) → b ≡ fourAt s (at + 12) → z ≡ fourAt s (at + 16)
+pub row-made : (s : List ℕ) (at : ℕ) {p τ c b z : ℕ} → at + 20 ≤ length s → p ≡ wordAt s at → τ ≡ wordAt s (at + 4) → c ≡ wordAt s (at + 8) → b ≡ wordAt s (at + 12) → z ≡ wordAt s (at + 16)
     → record { produce = p; threshold = τ; consume = c; capacity = b; reserved = z } ≡ rowAt s at
-row-made s at p τ c b z h e f g k l =
-    same-row (e ∙ there at (omega arith)) (f ∙ there (at + 4) (omega arith)) (g ∙ there (at + 8) (omega arith)) (k ∙ there (at + 12) (omega arith)) (l ∙ there (at + 16) (omega arith))
-    ∙ sym (row-there s at h)
-  where
-    there : (o : ℕ) → o + 4 ≤ length s → fourAt s o ≡ wordAt s o
-    there o m = sym (word-there s o m)
+row-made s at h e f g k l = same-row e f g k l ∙ sym (row-there s at h)
 
 -- the table of n rows, w bytes each, that stands at `at`
 pub table-back : (s : List ℕ) (at w : ℕ) (f : ℕ → List ℕ) (n : ℕ) → ((i : ℕ) → i < n → bytesOf (f i) ≡ part s (at + w * i) w) → bytesOf (flat f n) ≡ part s at (w * n)

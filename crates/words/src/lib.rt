@@ -1,10 +1,10 @@
-// Little-endian words of 32 bits on the caller's own bytes: a word, or a queue row of five, read at any place of them by
-// a reader that keeps its place, and written where there is room. Nothing else looks at a byte of a chain file.
+// Little-endian words of 32 bits on the caller's own bytes: a word, or a queue row of five, taken by a reader that keeps
+// its place, and written where there is room. Nothing else looks at a byte of a chain file.
 ghost use mathlib.Core.Path.{_≡_};
 ghost use mathlib.Core.List.{_∷_, []};
 ghost use Prim.Native.Nat.{_+_, _*_, _/_, _%_};
 ghost use Rattle.words.specs.Put.{Room, Puts};
-ghost use Rattle.words.specs.Words.{bytesOf, fourAt, wordAt};
+ghost use Rattle.words.specs.Words.{bytesOf, wordAt};
 ghost use Rattle.words.specs.Rows.{row, rowAt};
 ghost use Rattle.words.specs.Reader.{moved};
 
@@ -33,35 +33,6 @@ pub const NONE: Queue = Queue {
     reserved: 0,
 };
 
-// The word whose first byte stands at `at`, or 0 where it would pass the end.
-pub fn word_of(bytes: &[u8], at: usize) -> u32
-    ensures { λ r. ⌜ r ≡ wordAt (now (bytes .entry)) at ⌝ }
-{
-    let n = bytes.len();
-    if n < 4 {
-        return 0;
-    }
-    // `at + 4` could pass the machine's numbers; `n - 4` cannot.
-    if n - 4 < at {
-        return 0;
-    }
-    word_from(bytes, at)
-}
-
-// The queue row whose first byte stands at `at`, or no row where it would pass the end.
-pub fn row_of(bytes: &[u8], at: usize) -> Queue
-    ensures { λ r. ⌜ r ≡ rowAt (now (bytes .entry)) at ⌝ }
-{
-    let n = bytes.len();
-    if n < 20 {
-        return NONE;
-    }
-    if n - 20 < at {
-        return NONE;
-    }
-    row_from(bytes, at)
-}
-
 // A reader at a place of the bytes.
 pub fn seek<'a>(bytes: &'a [u8], at: usize) -> ChainReader<'a>
     ensures { λ r. ⌜ (r .bytes ≡ bytes .entry) × (r .at ≡ at) ⌝ }
@@ -72,13 +43,25 @@ pub fn seek<'a>(bytes: &'a [u8], at: usize) -> ChainReader<'a>
 // The word at the reader's place; the reader moves on behind it.
 pub fn take<'s, 'a>(reader: &'s mut ChainReader<'a>) -> u32
     requires { ⌜ Room (now (now reader .bytes)) (now reader .at) 4 ⌝ }
-    ensures { λ w. ⌜ (w ≡ fourAt (now (now (reader .entry) .bytes)) (now (reader .entry) .at))
-        × (now (reader .exit) ≡ moved (now (reader .entry))) ⌝ }
+    ensures { λ w. ⌜ (w ≡ wordAt (now (now (reader .entry) .bytes)) (now (reader .entry) .at))
+        × (now (reader .exit) ≡ moved 4 (now (reader .entry))) ⌝ }
 {
     let at = reader.at;
     let w = word(reader.bytes, at);
     reader.at = at + 4;
     w
+}
+
+// The queue row at the reader's place; the reader moves on behind it.
+pub fn take_row<'s, 'a>(reader: &'s mut ChainReader<'a>) -> Queue
+    requires { ⌜ Room (now (now reader .bytes)) (now reader .at) 20 ⌝ }
+    ensures { λ r. ⌜ (r ≡ rowAt (now (now (reader .entry) .bytes)) (now (reader .entry) .at))
+        × (now (reader .exit) ≡ moved 20 (now (reader .entry))) ⌝ }
+{
+    let at = reader.at;
+    let r = row(reader.bytes, at);
+    reader.at = at + 20;
+    r
 }
 
 // Writes a word at `at`, and answers the place behind it.
@@ -105,39 +88,24 @@ pub fn put_row(out: &mut [u8], at: usize, q: Queue) -> usize
     put_word(out, d, q.reserved)
 }
 
-// The word at a place where it is, taken by a reader.
-fn word_from(bytes: &[u8], at: usize) -> u32
-    requires { ⌜ Room (now bytes) at 4 ⌝ }
-    ensures { λ r. ⌜ r ≡ fourAt (now (bytes .entry)) at ⌝ }
-{
-    let mut reader = seek(bytes, at);
-    take(&mut reader)
-}
-
-// The row at a place where it is: one reader takes its five words, each from behind the one before.
-fn row_from(bytes: &[u8], at: usize) -> Queue
+// The five words of a queue row, where they are.
+fn row(bytes: &[u8], at: usize) -> Queue
     requires { ⌜ Room (now bytes) at 20 ⌝ }
     ensures { λ r. ⌜ r ≡ rowAt (now (bytes .entry)) at ⌝ }
 {
-    let mut reader = seek(bytes, at);
-    let produce = take(&mut reader);
-    let threshold = take(&mut reader);
-    let consume = take(&mut reader);
-    let capacity = take(&mut reader);
-    let reserved = take(&mut reader);
     Queue {
-        produce,
-        threshold,
-        consume,
-        capacity,
-        reserved,
+        produce: word(bytes, at),
+        threshold: word(bytes, at + 4),
+        consume: word(bytes, at + 8),
+        capacity: word(bytes, at + 12),
+        reserved: word(bytes, at + 16),
     }
 }
 
-// The word that four bytes make, where they are: no other function reads a byte.
+// The word that four bytes make, where they are: no other function reads a byte of a file.
 fn word(bytes: &[u8], at: usize) -> u32
     requires { ⌜ Room (now bytes) at 4 ⌝ }
-    ensures { λ r. ⌜ r ≡ fourAt (now (bytes .entry)) at ⌝ }
+    ensures { λ r. ⌜ r ≡ wordAt (now (bytes .entry)) at ⌝ }
 {
     joined(bytes[at], bytes[at + 1], bytes[at + 2], bytes[at + 3])
 }

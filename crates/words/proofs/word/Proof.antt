@@ -1,6 +1,7 @@
 -- `words::word` reads four bytes where they are, and `joined` says what they make.
+use mathlib.Core.Path.{sym, _∙_}
 use borrow.Author.Needs.{needs}
-use Rattle.words.specs.Words.{fourAt}
+use Rattle.words.specs.Words.{fourAt, word-there}
 use Rattle.words.proofs.word.Statement.{statement}
 use Rattle.words.proofs.word.Tie as tie
 
@@ -30,7 +31,7 @@ joined-requires c κs = search needs
 
 returns : tie.Need-returns
 unfolding fourAt
-returns c = c .joined .ensures
+returns c = c .joined .ensures ∙ sym (word-there _ _ (c .before .before .before .before .before .before .pre .fits))
 
 pub word-spec : {M : Type 1} → statement M
 word-spec =
