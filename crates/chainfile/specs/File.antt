@@ -1,8 +1,9 @@
 -- The chain file: what its words say, the checks 1 and 3 of where they stand, and what the reader answers (01, Chain file).
 --   countOf f, periodOf f, queuesAt f, nodesAt f, totalOf f
 --                              the header's five words
+--   headerOf f                 all five
 --   chainOf f                  the chain that the words of f say, slots past n zero
---   wrongLength f, lengthCheck f
+--   wrongLength len total, lengthCheck f
 --                              1: the length, or the total word
 --   badTable, overlap, offsetTests
 --                              the reasons of 3, and their order
@@ -40,6 +41,7 @@ use Rattle.chain.specs.Checks.{countCheck, rangeCheck, orderCheck, fields, Firs
 use Rattle.chain.specs.declared.Refusal.{Refusal}
 use Rattle.chain.specs.declared.Chain.{Chain}
 use Rattle.chain.specs.declared.ChainAnswer.{ChainAnswer}
+use Rattle.chainfile.specs.declared.reader.Header.{Header}
 
 -- "five words: n, source period y in ticks, byte offset of the queue table, byte offset of the node table, total length in bytes"
 abbrev pub countOf : List ℕ → ℕ
@@ -57,6 +59,9 @@ nodesAt f = wordAt f 12
 abbrev pub totalOf : List ℕ → ℕ
 totalOf f = wordAt f 16
 
+abbrev pub headerOf : List ℕ → Header
+headerOf f = record { n = countOf f; period = periodOf f; queues = queuesAt f; nodes = nodesAt f; total = totalOf f }
+
 -- the chain that the words of f say: row i of the queue table, word i of the node table; slots past n are zero
 unfoldable pub chainOf : List ℕ → Chain
 chainOf f = record {
@@ -67,11 +72,11 @@ chainOf f = record {
 }
 
 -- 1: "length under 20 or over 4,096, or total word differs from length", place 0
-abbrev pub wrongLength : List ℕ → Bool
-wrongLength f = outside 20 4096 (length f) || not (eqb (totalOf f) (length f))
+abbrev pub wrongLength : ℕ → ℕ → Bool
+wrongLength len total = outside 20 4096 len || not (eqb total len)
 
 abbrev pub lengthCheck : List ℕ → Refusal
-lengthCheck f = test 1 0 (wrongLength f)
+lengthCheck f = test 1 0 (wrongLength (length f) (totalOf f))
 
 -- "a table offset is no multiple of 4, is below 20, or its table passes the end"
 abbrev pub badTable : ℕ → ℕ → ℕ → Bool
@@ -133,7 +138,7 @@ pub length-silent : (f : List ℕ) → Silent (lengthCheck f) ↔ (In 20 4096 (l
 length-silent f = Iff·trans (test-silent 1 0 (λ e. omega arith) _) (or-false (outside-false 20 4096 (length f)) (differ-false (totalOf f) (length f)))
 
 pub length-only : (f : List ℕ) → Only 1 (lengthCheck f)
-length-only f = only-test 1 0 (wrongLength f)
+length-only f = only-test 1 0 (wrongLength (length f) (totalOf f))
 
 -- 3 in words: a table that begins at `at` and ends before `end` stands wrong in a file of `len` bytes
 abbrev pub BadTable : ℕ → ℕ → ℕ → Type 0

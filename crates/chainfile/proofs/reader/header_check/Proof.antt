@@ -1,10 +1,8 @@
--- `chainfile::reader::header_check` meets its contract: 1, 2 and 3 in a row, on the words that `word_of` gives.
+-- `chainfile::reader::header_check` meets its contract: 1, 2 and 3 in a row, on the header's words.
 use borrow.Author.Needs.{needs}
-use mathlib.Core.Path.{_∙_, ap}
-use Rattle.chain.specs.Refusals.{test, first, or-left, or-right}
-use Rattle.chain.specs.Checks.{countCheck}
+use Rattle.chain.specs.Refusals.{first, or-left, or-right}
 use Rattle.chainfile.specs.File.{headerRefusal}
-use Rattle.chainfile.proofs.Reading.{offset-last}
+use Rattle.chainfile.proofs.Reading.{length-first, count-next, offset-last}
 use Rattle.chainfile.proofs.reader.header_check.Statement.{statement}
 use Rattle.chainfile.proofs.reader.header_check.Tie as tie
 
@@ -16,10 +14,9 @@ test-requires c κs = search needs
 
 returns : tie.Need-returns
 unfolding headerRefusal first
-returns c = or-left _ (c .before .before .test .ensures ∙ ap (test 1 0) (c .before .before .before .is-wrong-length .ensures)) (c .if1 .taken)
-
-word-of-requires : tie.Need-word-of-requires
-word-of-requires c κs = search needs
+returns c =
+    let t = c .before .before in
+    or-left _ (length-first _ (t .before .before .before .pre) (t .before .is-wrong-length .ensures) (t .test .ensures)) (c .if1 .taken)
 
 count-check-requires : tie.Need-count-check-requires
 count-check-requires c κs = search needs
@@ -27,15 +24,10 @@ count-check-requires c κs = search needs
 returns-2 : tie.Need-returns-2
 unfolding headerRefusal first
 returns-2 c =
-    let c1 = c .before .before .before .before in
-    or-right (c1 .before .before .test .ensures ∙ ap (test 1 0) (c1 .before .before .before .is-wrong-length .ensures)) (c1 .if1 .left)
-    (or-left _ (c .before .before .count-check .ensures ∙ ap countCheck (c .before .before .before .word-of .ensures)) (c .if2 .taken))
-
-word-of-requires-2 : tie.Need-word-of-requires-2
-word-of-requires-2 c κs = search needs
-
-word-of-requires-3 : tie.Need-word-of-requires-3
-word-of-requires-3 c κs = search needs
+    let c1 = c .before .before .before in
+    let t = c1 .before .before in
+    let header = t .before .before .before .pre in
+    or-right (length-first _ header (t .before .is-wrong-length .ensures) (t .test .ensures)) (c1 .if1 .left) (or-left _ (count-next _ header (c .before .before .count-check .ensures)) (c .if2 .taken))
 
 offset-check-requires : tie.Need-offset-check-requires
 offset-check-requires c κs = search needs
@@ -43,11 +35,12 @@ offset-check-requires c κs = search needs
 returns-3 : tie.Need-returns-3
 unfolding headerRefusal first
 returns-3 c =
-    let c2 = c .before .before .before in
-    let c1 = c2 .before .before .before .before in
-    or-right (c1 .before .before .test .ensures ∙ ap (test 1 0) (c1 .before .before .before .is-wrong-length .ensures)) (c1 .if1 .left)
-    (or-right (c2 .before .before .count-check .ensures ∙ ap countCheck (c2 .before .before .before .word-of .ensures)) (c2 .if2 .left)
-    (offset-last _ (c .offset-check .ensures) (c2 .before .before .before .word-of .ensures) (c .before .before .word-of2 .ensures) (c .before .word-of3 .ensures)))
+    let c2 = c .before in
+    let c1 = c2 .before .before .before in
+    let t = c1 .before .before in
+    let header = t .before .before .before .pre in
+    or-right (length-first _ header (t .before .is-wrong-length .ensures) (t .test .ensures)) (c1 .if1 .left)
+    (or-right (count-next _ header (c2 .before .before .count-check .ensures)) (c2 .if2 .left) (offset-last _ header (c .offset-check .ensures)))
 
 pub header-check-spec : {M : Type 1} → statement M
 header-check-spec =
@@ -56,10 +49,7 @@ header-check-spec =
     is-wrong-length-requires
     test-requires
     returns
-    word-of-requires
     count-check-requires
     returns-2
-    word-of-requires-2
-    word-of-requires-3
     offset-check-requires
     returns-3)

@@ -1,5 +1,4 @@
 -- `chainfile::reader::is_wrong_length` meets its contract: the three tests are the definition's.
-use borrow.Author.Needs.{needs}
 use borrow.Author.Tests.{lt-ltb, le-ltb}
 use Rattle.chainfile.proofs.reader.is_wrong_length.Statement.{statement}
 use Rattle.chainfile.proofs.reader.is_wrong_length.Tie as tie
@@ -10,15 +9,8 @@ returns c = simp (lt-ltb _ _ (c .if1 .taken))
 returns-2 : tie.Need-returns-2
 returns-2 c = simp (le-ltb _ _ (c .before .if1 .left), lt-ltb _ _ (c .if2 .taken))
 
-word-of-requires : tie.Need-word-of-requires
-word-of-requires c κs = search needs
-
-cast-result : tie.Need-cast-result
-cast-result c = search needs
-
 returns-3 : tie.Need-returns-3
-returns-3 c = simp (le-ltb _ _ (c .before .before .if1 .left), le-ltb _ _ (c .before .if2 .left), c .word-of .ensures)
+returns-3 c = simp (le-ltb _ _ (c .before .if1 .left), le-ltb _ _ (c .if2 .left))
 
 pub is-wrong-length-spec : {M : Type 1} → statement M
-is-wrong-length-spec =
-    tie.close (tie.spec returns returns-2 word-of-requires cast-result returns-3)
+is-wrong-length-spec = tie.close (tie.spec returns returns-2 returns-3)
