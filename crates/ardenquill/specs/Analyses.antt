@@ -15,5 +15,8 @@ pub use Rattle.rates.specs.Load.{capped, capped-above}
 pub use Rattle.sizing.specs.Sizes.{start, minimumOf, namingOf, capacityOf, marginOf, margin-unwritten, margin-written, sizeOf, noSize, emptyAnalysis, refusedWith, size-at}
 unfoldable pub use Rattle.sizing.specs.Sizes.{sizeBy, analysisOf, sized}
 unfoldable pub use Rattle.sizing.specs.Checks.{analyseRefusal, analyseAnswer, runRefusal, runAnswer}
-pub use Rattle.sizing.specs.Checks.{limit, limit-word, tooLarge, rateTest, rateCheck, loadCheck, capacityTest, capacityCheck, sizeChecks, analyseChecks, runChecks, InLimit, FirstTooLarge, Short, Enough, enough-capacity, FirstShort, analyse-2, analyse-4, analyse-5, analyse-6, analyse-7, run-parts, run-8, run-earlier, analyseNumbers, analyse-numbered, runNumbers, run-numbered, rates-silent}
+pub use Rattle.sizing.specs.Checks.{limit, limit-word, tooLarge, rateTest, rateCheck, loadCheck, capacityTest, capacityCheck}
+pub use Rattle.sizing.specs.Checks.{sizeChecks, analyseChecks, runChecks, InLimit, FirstTooLarge, Short, Enough, enough-capacity}
+pub use Rattle.sizing.specs.Checks.{FirstShort, analyse-2, analyse-4, analyse-5, analyse-6, analyse-7, run-parts, run-8}
+pub use Rattle.sizing.specs.Checks.{run-earlier, analyseNumbers, analyse-numbered, runNumbers, run-numbered, rates-silent}
 pub use Rattle.sizing.specs.Accepted.{Accepted, size-accepts, analyse-accepts, analysed, run-accepts, SizeFits, size-fits, busy-fits, cycle-fits}

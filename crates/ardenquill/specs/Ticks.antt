@@ -4,7 +4,11 @@ unfoldable pub use Rattle.instants.specs.Steps.{goes, onward, sourced, lacking,
 pub use Rattle.instants.specs.Steps.{numberOf, valuesOf, kindOf, tickOf, atOf, kind-number, kind-values, clean, overflowed, undated, withClock, withDone, divides, next, lackingTest, asEarly, ended}
 unfoldable pub use Rattle.instants.specs.Checks.{spentCheck, tickRefusal, deadlineRunRefusal, outcomeOf, tickAnswer, deadlineRunAnswer}
 pub use Rattle.instants.specs.Checks.{longest, clockCheck, spentTest, tickChecks, lengthCheck, deadlineRunChecks}
-pub use Rattle.instants.specs.Refusals.{clock-exact, clock-silent, clock-only, FirstSpent, LateOrSpent, spent-exact, spent-silent, spent-only, length-exact, length-silent, length-only, tick-parts, tick-17, tick-9, tick-earlier, tickNumbers, tick-numbered, tick-accepts, Ticking, ticking-is, deadline-run-parts, deadline-run-9, deadline-run-earlier, deadlineRunNumbers, deadline-run-numbered, deadline-run-accepts, ranAs, refusedAs, tick-ran, tick-refused, deadline-run-ran, deadline-run-refused}
+pub use Rattle.instants.specs.Refusals.{clock-exact, clock-silent, clock-only, FirstSpent, LateOrSpent, spent-exact, spent-silent}
+pub use Rattle.instants.specs.Refusals.{spent-only, length-exact, length-silent, length-only, tick-parts, tick-17, tick-9, tick-earlier}
+pub use Rattle.instants.specs.Refusals.{tickNumbers, tick-numbered, tick-accepts, Ticking, ticking-is, deadline-run-parts}
+pub use Rattle.instants.specs.Refusals.{deadline-run-9, deadline-run-earlier, deadlineRunNumbers, deadline-run-numbered, deadline-run-accepts}
+pub use Rattle.instants.specs.Refusals.{ranAs, refusedAs, tick-ran, tick-refused, deadline-run-ran, deadline-run-refused}
 pub use Rattle.instants.specs.Runs.{onward-clean, onward-none, onward-then, instants-ticks, ticks-more, clean-or}
 pub use Rattle.instants.specs.Kept.{Running, TickStep, Countable, tick-step, begun-stays, fired-running}
 pub use Rattle.instants.specs.Lacking.{Within, Past, FirstLacking, lacking-exact, lacking-silent}
@@ -14,9 +18,12 @@ pub use Rattle.instants.specs.Spill.{room-after-choice}
 pub use Rattle.instants.specs.Source.{divides-is, Due, Full, Fits, source-spills, source-fires, source-rests, SourceOnce, source-only}
 pub use Rattle.instants.specs.Outcomes.{Dated, lacking-once, lacking-dated}
 pub use Rattle.instants.specs.Once.{Works, works-is, Effect, WorkOnce, work-only, TickOnce, once-counts, once-keeps}
-pub use Rattle.instants.specs.Exactly.{Spills, Lacks, Spilled, Lacked, Stopped, Cleaned, OneTick, one-overflows, one-lacks, one-cleans, one-stays, one-leaves, clean-only, one-tick-only, tick-exactly, finish-never-spills, Then, ticks-to-only, ticks-exactly, ticks-never-spill, run-never-spills}
+pub use Rattle.instants.specs.Exactly.{Spills, Lacks, Spilled, Lacked, Stopped, Cleaned, OneTick, one-overflows, one-lacks}
+pub use Rattle.instants.specs.Exactly.{one-cleans, one-stays, one-leaves, clean-only, one-tick-only, tick-exactly}
+pub use Rattle.instants.specs.Exactly.{finish-never-spills, Then, ticks-to-only, ticks-exactly, ticks-never-spill, run-never-spills}
 unfoldable pub use Rattle.instants.specs.Exactly.{TicksTo}
-pub use Rattle.instants.specs.Answers.{left, answer-one, answer-exactly, answer-ends, paced-ticking, run-may, ran-to, run-answers, run-start, at-clock, run-next, run-stops, run-stays, run-before, Ends, run-ends, CleanStep, along}
+pub use Rattle.instants.specs.Answers.{left, answer-one, answer-exactly, answer-ends, paced-ticking, run-may, ran-to, run-answers}
+pub use Rattle.instants.specs.Answers.{run-start, at-clock, run-next, run-stops, run-stays, run-before, Ends, run-ends, CleanStep, along}
 unfoldable pub use Rattle.instants.specs.Totals.{spentOn, HowMany}
 pub use Rattle.instants.specs.Totals.{workedBy, source-work, other-work, own-work, total, SomeOver, some-over, Waits, tick-total, how-many-one, run-clock, run-source, run-work}
 unfoldable pub use Rattle.traces.specs.Trace.{tracing, sourceEntry, finishEntry, finishTrace, tickTrace, trace}

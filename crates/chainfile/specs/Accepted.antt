@@ -17,7 +17,9 @@ use Rattle.chain.specs.Checks.{countCheck, count-silent, recordRange, recordOrd
 use Rattle.chain.specs.Sound.{Sound, sound-is}
 use Rattle.chain.specs.declared.Refusal.{Refusal}
 use Rattle.chain.specs.declared.Chain.{Chain}
-use Rattle.chainfile.specs.File.{countOf, queuesAt, nodesAt, totalOf, chainOf, lengthCheck, badTable, offsetTests, offsetCheck, fileOffsets, fileRange, fileOrder, readChecks, headerRefusal, readRefusal, length-silent, GoodTable, good-table, Shared, overlap-false}
+use Rattle.chainfile.specs.File.{countOf, queuesAt, nodesAt, totalOf, chainOf, lengthCheck, badTable, offsetTests}
+use Rattle.chainfile.specs.File.{offsetCheck, fileOffsets, fileRange, fileOrder, readChecks, headerRefusal}
+use Rattle.chainfile.specs.File.{readRefusal, length-silent, GoodTable, good-table, Shared, overlap-false}
 use Rattle.chainfile.specs.Packed.{packedLength, roomCheck, writeChecks, writeRefusal}
 
 -- what 1, 2 and 3 leave to be known: the count, the length, the total word and where the tables stand
@@ -30,7 +32,13 @@ pub record Placed (f : List ℕ) : Type 0 where
 
 pub placed : {r : Refusal} (f : List ℕ) → r ≡ headerRefusal f → Silent r → Placed f
 unfolding headerRefusal Silents offsetCheck
-placed f e z = record { count = count-silent (countOf f) .0 (h .1 .0); long = length-silent f .0 (h .0) .0; total = length-silent f .0 (h .0) .1; queues = good 8 (queuesAt f) (queuesAt f + 20 * countOf f) (o .0); nodes = good 12 (nodesAt f) (nodesAt f + 4 * countOf f) (o .1 .0) }
+placed f e z = record {
+  count = count-silent (countOf f) .0 (h .1 .0);
+  long = length-silent f .0 (h .0) .0;
+  total = length-silent f .0 (h .0) .1;
+  queues = good 8 (queuesAt f) (queuesAt f + 20 * countOf f) (o .0);
+  nodes = good 12 (nodesAt f) (nodesAt f + 4 * countOf f) (o .1 .0);
+}
   where
     h : Silents (lengthCheck f ∷ countCheck (countOf f) ∷ fileOffsets f ∷ [])
     h = first-silent (lengthCheck f ∷ countCheck (countOf f) ∷ fileOffsets f ∷ []) .0 (silent-as e z)
@@ -73,8 +81,10 @@ read-accepts f = Iff·trans (first-silent (readChecks f)) (out, back)
     back : AcceptedFile f → Silents (readChecks f)
     back a =
         let p = a .places in
-        let s = own .1 (a .chain) in
-        (length-silent f .1 (p .long, p .total), (s .0, (first-silent offsets .1 (good 8 _ _ (p .queues), (good 12 _ _ (p .nodes), (passes 12 _ .1 (overlap-false (countOf f) (queuesAt f) (nodesAt f) .1 (a .apart)), tt))), s .1)))
+        let s = own .1 (a .chain) in (
+          length-silent f .1 (p .long, p .total),
+          (s .0, (first-silent offsets .1 (good 8 _ _ (p .queues), (good 12 _ _ (p .nodes), (passes 12 _ .1 (overlap-false (countOf f) (queuesAt f) (nodesAt f) .1 (a .apart)), tt))), s .1)),
+        )
 
 pub write-accepts : (c : Chain) (room : ℕ) → Silent (writeRefusal c room) ↔ (Sound c × (packedLength (c .n) ≤ room))
 unfolding writeRefusal Silents

@@ -177,7 +177,8 @@ overlap-false n q w = (λ e s. true≢false (sym (overlap-true n q w .1 s) ∙ e
 
 -- the queue offset's reasons at place 8; else the node offset's at place 12; else, at place 12, a byte in both tables
 abbrev pub BadTables : ℕ → ℕ → ℕ → ℕ → ℕ → Type 0
-BadTables len n q w L = (BadTable len q (q + 20 * n) × (L ≡ 8)) ⊎ (GoodTable len q (q + 20 * n) × ((BadTable len w (w + 4 * n) × (L ≡ 12)) ⊎ (GoodTable len w (w + 4 * n) × (Shared q (q + 20 * n) w (w + 4 * n) × (L ≡ 12)))))
+BadTables len n q w L = (BadTable len q (q + 20 * n) × (L ≡ 8))
+    ⊎ (GoodTable len q (q + 20 * n) × ((BadTable len w (w + 4 * n) × (L ≡ 12)) ⊎ (GoodTable len w (w + 4 * n) × (Shared q (q + 20 * n) w (w + 4 * n) × (L ≡ 12)))))
 
 pub offset-exact : (L len n q w : ℕ) → (offsetCheck len n q w ≡ refused 3 L) ↔ BadTables len n q w L
 unfolding offsetCheck first
@@ -207,7 +208,10 @@ readNumbers = 1 ∷ 2 ∷ 3 ∷ 4 ∷ 5 ∷ []
 
 pub read-numbered : (f : List ℕ) → Numbered readNumbers (readChecks f)
 unfolding Numbered
-read-numbered f = (length-only f, (count-only (countOf f), (offset-only (length f) (countOf f) (queuesAt f) (nodesAt f), (range-only (chainOf f) (queuesAt f) (nodesAt f), (order-only (chainOf f) (queuesAt f), tt)))))
+read-numbered f = (
+  length-only f,
+  (count-only (countOf f), (offset-only (length f) (countOf f) (queuesAt f) (nodesAt f), (range-only (chainOf f) (queuesAt f) (nodesAt f), (order-only (chainOf f) (queuesAt f), tt)))),
+)
 
 -- a file is refused with a number exactly when no earlier check speaks and the number's own condition holds
 module _ (f : List ℕ) (L : ℕ) where

@@ -33,7 +33,8 @@ use Rattle.words.specs.Rows.{row}
 use Rattle.chain.specs.Tests.{Out, below-true}
 use Rattle.chain.specs.Refusals.{Silents, Numbered, exact-at, refused, fine, test, first, orElse, first-append, test-alone, Only, only-test, test-exact, numbered-append}
 use Rattle.chain.specs.Record.{rowOf, workOf}
-use Rattle.chain.specs.Checks.{countCheck, chainChecks, rangeCheck, orderCheck, recordRange, recordOrder, fields, FirstOut, FirstOver, count-exact, range-exact, order-exact, chainNumbers, chain-numbered}
+use Rattle.chain.specs.Checks.{countCheck, chainChecks, rangeCheck, orderCheck, recordRange, recordOrder, fields}
+use Rattle.chain.specs.Checks.{FirstOut, FirstOver, count-exact, range-exact, order-exact, chainNumbers, chain-numbered}
 use Rattle.chain.specs.declared.Refusal.{Refusal}
 use Rattle.chain.specs.declared.Chain.{Chain}
 use Rattle.chainfile.specs.declared.LengthAnswer.{LengthAnswer}
@@ -119,7 +120,8 @@ write-numbered c room = numbered-append chainNumbers (10 ∷ []) (chainChecks c)
 
 -- a chain is refused with a number exactly when no earlier check speaks and the number's own condition holds
 module _ (c : Chain) (room L : ℕ) where
-  write-at : (k : ℕ) → k < 4 → (writeRefusal c room ≡ refused (getD writeNumbers k 0) L) ↔ (Silents (take k (writeChecks c room)) × (getD (writeChecks c room) k fine ≡ refused (getD writeNumbers k 0) L))
+  write-at : (k : ℕ) → k < 4 → (writeRefusal c room ≡ refused (getD writeNumbers k 0) L)
+      ↔ (Silents (take k (writeChecks c room)) × (getD (writeChecks c room) k fine ≡ refused (getD writeNumbers k 0) L))
   unfolding writeRefusal
   write-at k l = exact-at writeNumbers (writeChecks c room) (write-numbered c room) tt k L l
 

@@ -50,7 +50,11 @@ module _ (f : List ℕ) (p : Placed f) where
 
   pub field-there : There f (fields (chainOf f) (queuesAt f) (nodesAt f))
   unfolding There fields rowFields chainOf
-  field-there = (refl, there-append f (flat row (countOf f)) (tab (countOf f) time) (there-flat f row (countOf f) (λ i l. rw (row-is i l) (refl, (refl, (refl, (refl, (refl, tt))))))) (there-tab f time (countOf f) time-is))
+  field-there = (
+    refl,
+    there-append f (flat row (countOf f)) (tab (countOf f) time)
+        (there-flat f row (countOf f) (λ i l. rw (row-is i l) (refl, (refl, (refl, (refl, (refl, tt))))))) (there-tab f time (countOf f) time-is),
+  )
     where
       row : ℕ → List Field
       row i = rowFields (rowOf (chainOf f) i) (queuesAt f + 20 * i)

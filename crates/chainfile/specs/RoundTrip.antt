@@ -54,7 +54,8 @@ module _ (c : Chain) (s : Sound c) where
   row-is i h =
       let r : SoundRow (rowOf c i) = s .rows i h in
       row-there (packed c) (20 + 20 * i) (omega (arith, packed-length c))
-      ∙ same-row (rw (add-zero (20 + 20 * i)) at (field 0 (omega arith) (omega arith))) (field 1 (omega arith) (omega arith)) (field 2 (omega arith) (omega arith)) (field 3 (omega arith) (omega arith)) (field 4 (omega arith) (omega arith))
+      ∙ same-row (rw (add-zero (20 + 20 * i)) at (field 0 (omega arith) (omega arith))) (field 1 (omega arith) (omega arith))
+      (field 2 (omega arith) (omega arith)) (field 3 (omega arith) (omega arith)) (field 4 (omega arith) (omega arith))
     where
       among : (j : ℕ) → j < 5 → getD (words c) (5 + (5 * i + j)) 0 ≡ getD (row (rowOf c i)) j 0
       among j l =
@@ -154,7 +155,8 @@ packed-read f b z =
         ∙ word-back f (nodesAt f + 4 * i) b (omega (arith, p .nodes .1 .1))
 
 -- the chain that a file was read as is written into lent bytes o with room for it, which become p: packedFile, then the rest of o
-pub write-of-read : (f o p : List ℕ) (r : ChainAnswer) (a : LengthAnswer) → Bytes f → r ≡ readAnswer f → r .number ≡ 0 → packedLength (countOf f) ≤ length o → Output (writeRefusal (r .chain) (length o)) (packed (r .chain)) o p a
+pub write-of-read : (f o p : List ℕ) (r : ChainAnswer) (a : LengthAnswer) → Bytes f → r ≡ readAnswer f → r .number ≡ 0
+    → packedLength (countOf f) ≤ length o → Output (writeRefusal (r .chain) (length o)) (packed (r .chain)) o p a
     → (a ≡ record { number = 0; place = 0; length = packedLength (countOf f) }) × (p ≡ packedFile f ++ drop (packedLength (countOf f)) o)
 unfolding chainOf readAnswer
 write-of-read f o p r a b is n l t =

@@ -72,7 +72,14 @@ row-back s at b h =
 
 pub row-alike : (s t : List ℕ) (at : ℕ) → length s ≡ length t → Alike s t at 20 → rowAt s at ≡ rowAt t at
 unfolding rowAt
-row-alike s t at e h = rw (e, word at (omega arith) (omega arith), word (at + 4) (omega arith) (omega arith), word (at + 8) (omega arith) (omega arith), word (at + 12) (omega arith) (omega arith), word (at + 16) (omega arith) (omega arith))
+row-alike s t at e h = rw (
+  e,
+  word at (omega arith) (omega arith),
+  word (at + 4) (omega arith) (omega arith),
+  word (at + 8) (omega arith) (omega arith),
+  word (at + 12) (omega arith) (omega arith),
+  word (at + 16) (omega arith) (omega arith),
+)
   where
     word : (o : ℕ) → at ≤ o → o + 4 ≤ at + 20 → wordAt s o ≡ wordAt t o
     word o l m = word-alike s t o e (λ i p q. h i (omega arith) (omega arith))
