@@ -46,7 +46,8 @@ module _ (f o : List ℕ) (room : longestReport ≤ length o) {p : List ℕ} {a 
         kept : (k : ℕ) → (k ≡ 0 → ⊥) → cond (eqb k 0) (reportText f ++ drop (length (reportText f)) o) o ≡ o
         kept k m = simp (ne-eqb k 0 m)
 
-    pub prints-refusal : {q : List ℕ} {b : LengthAnswer} → a .number < 2 ^ 32 → a .place < 2 ^ 32 → Output (roomCheck (length (refusalText (a .number) (a .place))) (length p)) (refusalText (a .number) (a .place)) p q b → take (b .length) q ≡ printed f
+    pub prints-refusal : {q : List ℕ} {b : LengthAnswer} → a .number < 2 ^ 32 → a .place < 2 ^ 32
+        → Output (roomCheck (length (refusalText (a .number) (a .place))) (length p)) (refusalText (a .number) (a .place)) p q b → take (b .length) q ≡ printed f
     unfolding printed
     prints-refusal hn hl v =
         let long : 30 ≤ length p = omega (arith, ap length untouched) in
