@@ -17,12 +17,12 @@ use Rattle.chain.specs.Tests.{and-true}
 use Rattle.chain.specs.Refusals.{test, first, orElse, Silent, first-append, first-last, or-left, or-right}
 use Rattle.chain.specs.Checks.{countCheck}
 use Rattle.chain.specs.Record.{rowOf, workOf, emptyChain, answered, refused-alike, same-chain}
-use Rattle.chain.specs.Faults.{fineRow, AllFine, FineRows, TablesAt, faultsOf, settled, settled-is}
+use Rattle.chain.specs.Faults.{fineRow, AllFine, FineRows, TablesAt, noFaults, faultsOf, settled, settled-is}
 use Rattle.chain.specs.declared.Refusal.{Refusal}
 use Rattle.chain.specs.declared.Chain.{Chain}
 use Rattle.chain.specs.declared.ChainAnswer.{ChainAnswer}
 use Rattle.chain.specs.declared.checks.Faults.{Faults}
-use Rattle.chain.proofs.Gather.{fine-none, fine-more}
+use Rattle.chain.proofs.Gather.{fine-none, fine-more, none-refused}
 use Rattle.chainfile.specs.declared.reader.Header.{Header}
 use Rattle.chainfile.specs.Accepted.{Placed}
 use Rattle.chainfile.specs.File.{countOf, periodOf, queuesAt, nodesAt, totalOf, headerOf, chainOf, wrongLength, lengthCheck, offsetTests, offsetCheck, fileOffsets, readChecks, headerRefusal, rowsRefusal, readRefusal, readAnswer}
@@ -162,7 +162,13 @@ module _ (f : List ℕ) (places : Placed f) {i at to fine : ℕ} {c : Chain} (s 
     unfolding rowsRefusal
     load-answer is e = e ∙ rw (loaded, is) (ap (λ (r : Refusal). answered r (chainOf f)) (settled-is (chainOf f) (queuesAt f) (nodesAt f)))
 
--- the answer from its parts, as code makes it
-pub concludes : (c : Chain) (q w : ℕ) {x : Faults} {r : Refusal} {a : ChainAnswer} → x ≡ faultsOf (rowOf c) (workOf c) q w (c .n) → r ≡ settled (c .period) x → a ≡ answered r c
+    pub fine-answer : {h : Header} {a : ChainAnswer} → h ≡ headerOf f → h .n ≤ fine → a ≡ answered (settled (c .period) noFaults) c → a ≡ answered (rowsRefusal f) (chainOf f)
+    fine-answer {h} is all e = load-answer is (e ∙ ap (λ (x : Faults). answered (settled (c .period) x) c) (none-refused c (h .queues) (h .nodes) fine-rows (omega (arith, s .count, ap (λ (k : Header). k .n) is, all))))
+
+-- an answer from its parts, as code makes it
+pub answers : (c : Chain) (x : Faults) {r : Refusal} {a : ChainAnswer} → r ≡ settled (c .period) x → a ≡ answered r c → a ≡ answered (settled (c .period) x) c
+answers c x e g = g ∙ ap (λ (r : Refusal). answered r c) e
+
+pub answers-with : (c : Chain) (q w : ℕ) {x : Faults} {r : Refusal} {a : ChainAnswer} → x ≡ faultsOf (rowOf c) (workOf c) q w (c .n) → r ≡ settled (c .period) x → a ≡ answered r c
     → a ≡ answered (settled (c .period) (faultsOf (rowOf c) (workOf c) q w (c .n))) c
-concludes c q w ex e g = g ∙ ap (λ (r : Refusal). answered r c) (e ∙ ap (settled (c .period)) ex)
+answers-with c q w ex e g = answers c _ (e ∙ ap (settled (c .period)) ex) g

@@ -6,7 +6,7 @@ ghost use Prim.Native.Nat.{_+_, _<_};
 ghost use lib.Dec.{eqb};
 ghost use Rattle.words.specs.Put.{Room};
 ghost use Rattle.chain.specs.Record.{rowOf, workOf, emptyChain, answered};
-ghost use Rattle.chain.specs.Faults.{fineRow, faultsOf, settled, FineRows, TablesAt};
+ghost use Rattle.chain.specs.Faults.{fineRow, noFaults, faultsOf, settled, FineRows, TablesAt};
 ghost use Rattle.chainfile.specs.File.{headerOf, wrongLength, badTable, overlap, offsetCheck, headerRefusal, rowsRefusal, chainOf, readAnswer};
 ghost use Rattle.chainfile.specs.Accepted.{Placed};
 use chain::Chain;
@@ -120,8 +120,8 @@ fn do_overlap(q: u32, qend: usize, w: u32, wend: usize) -> bool
     (q as usize) < wend && (w as usize) < qend
 }
 
-// The record of a file whose tables stand well, or what 4 and 5 refuse of it. One reader walks the queue table from its
-// first word to its last, and one the node table.
+// The record of a file whose tables stand well, or what 4 and 5 refuse of it. One reader walks the queue table from its first
+// word to its last, and one the node table. The record is copied only into an answer.
 fn load(file: &[u8], header: Header) -> ChainAnswer
     requires { ⌜ Placed (now file) × (header ≡ headerOf (now file)) ⌝ }
     ensures { λ r. ⌜ r ≡ answered (rowsRefusal (now (file .entry))) (chainOf (now (file .entry))) ⌝ }
@@ -140,7 +140,10 @@ fn load(file: &[u8], header: Header) -> ChainAnswer
         chain.work[i] = e;
         i += 1;
     }
-    concluded(chain, fine, header)
+    if fine < n {
+        return refused_rows(chain, fine, header);
+    }
+    fine_rows(chain)
 }
 
 // The record that the header alone says: no row is filled.
@@ -166,15 +169,19 @@ fn tallied(fine: usize, i: usize, row: Queue, e: u32) -> usize
     fine
 }
 
-// The answer to a file whose record has this header, and of whose rows the first `fine` are fine. Faults are gathered from the
-// first row on that is not, so that a sound file pays for none.
-fn concluded(chain: Chain, fine: usize, header: Header) -> ChainAnswer
+// The answer to a file with this record, all of whose rows are fine: the period is left to be tested.
+fn fine_rows(chain: Chain) -> ChainAnswer
+    ensures { λ r. ⌜ r ≡ answered (settled (chain .period) noFaults) chain ⌝ }
+{
+    chain::answer(chain::settle(chain.period, chain::NO_FAULTS), chain)
+}
+
+// The answer to a file with this record, of whose rows the first `fine` are fine: faults are gathered from the next row on, so
+// that a sound file pays for none.
+fn refused_rows(chain: Chain, fine: usize, header: Header) -> ChainAnswer
     requires { ⌜ FineRows chain fine × TablesAt (chain .n) (header .queues) (header .nodes) ⌝ }
     ensures { λ r. ⌜ r ≡ answered (settled (chain .period) (faultsOf (rowOf chain) (workOf chain) (header .queues) (header .nodes) (chain .n))) chain ⌝ }
 {
-    if fine < chain.n as usize {
-        let faults = chain::chain_faults(chain, fine, header.queues, header.nodes);
-        return chain::answer(chain::settle(chain.period, faults), chain);
-    }
-    chain::answer(chain::settle(chain.period, chain::NO_FAULTS), chain)
+    let faults = chain::chain_faults(chain, fine, header.queues, header.nodes);
+    chain::answer(chain::settle(chain.period, faults), chain)
 }

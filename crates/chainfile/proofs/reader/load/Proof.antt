@@ -1,7 +1,7 @@
 -- `chainfile::reader::load` meets its contract: a walk of its MIR, by hand. Two readers stand in locals; in each turn of the loop one is lent to `take_row` and one to `take`, which move them on, and the row and the word go into their slots of the record.
 --     Turn          where the loop stands: before row i, whose parts stand at `at` and `to`, with the record c and the tally
 --     At            what the walk holds there
---     more, ends    a turn that takes a row, and the one that leaves the loop, with the rest of the body
+--     more, ends    a turn that takes a row, and the one that leaves the loop, with the rest of the body: its two ways out end alike (leaves)
 -- All that the proof knows of the functions called is that each meets its contract.
 -- Assumes nothing.
 use mathlib.Core.Path.{_≡_, refl, sym, ap, ap₂, _∙_, subst}
@@ -10,7 +10,7 @@ use mathlib.Core.List.{List, [], _∷_, map}
 use mathlib.Core.WellFounded.{WellFounded, InvImage·wf}
 use Prim.Native.Nat.{ℕ, _+_, _*_, _-_, _≤_, _<_, _^_}
 use native.Mathlib.Omega.{arith}
-use lib.Dec.{T as Holds, ltb, eqb, lit<}
+use lib.Dec.{T as Holds, ltb, eqb, lit<, nltb→le}
 use lib.ListN.{length, set}
 use lib.WfN.{Nat·lt-wfRel}
 use borrow.Author.Tests.{ltb-true, ltb-false}
@@ -26,9 +26,9 @@ use prog.Wp.{Heap, Env, Out, spotOf, Calls, Loops, Wp, WpFn, Tables, afterSeq, a
 use ghost.Atoms.{Atoms, sem}
 use contract.Monad.{Fun, fact}
 use contract.Running.{givenOf, tables, tablesOf}
-use types.Kit.{Given, Item, Sq, runs, ‵, _⊛_, ⋆, anyQ, atRet, _$_, _∵_, !, qed, by, move, keep, drop, split, join, rewrite, fsplit, fjoin, suffices, frame, done}
+use types.Kit.{Given, Item, Sq, runs, frees, prop, ‵, _⊛_, ⋆, anyQ, atRet, _$_, _∵_, !, qed, by, move, keep, drop, split, join, rewrite, fsplit, fjoin, suffices, frame, done}
 use types.Part.{whole, sub, look-in, store-in}
-use types.Run.{look, store, init, forget, stop, hop, fld, from, load, lit, un, bin, addr, of-opd, and-then, no-more, assigns, assigns-last, land, first, blocks, loops, again, Below, stays, leaves-loop, returns, exec, enter, alloc1, alloc0, params1, pass1, pass0, free1, free0}
+use types.Run.{look, store, init, forget, stop, hop, fld, from, load, lit, un, bin, addr, of-opd, and-then, no-more, assigns, assigns-last, land, first, blocks, loops, again, Below, stays, leaves-loop, branches, skips, returns, returns-within, exec, enter, alloc1, alloc0, params1, pass1, pass0, free1, free0}
 use sound.WpLaws.{FmC, fmOf, WpFn-mono}
 use denote.RattleType.{RattleType, owns}
 use denote.Laws.{Is, Tells}
@@ -71,7 +71,7 @@ use Rattle.words.proofs.take_row.Symbol as take-row-def
 use Rattle.words.proofs.take_row.Symbol.{name as #words·take-row}
 use Rattle.words.proofs.take_row.Met as take-row-thm
 use Rattle.chain.specs.Record.{rowOf, workOf, emptyChain, answered}
-use Rattle.chain.specs.Faults.{fineRow, faultsOf, settled, FineRows, TablesAt}
+use Rattle.chain.specs.Faults.{fineRow, noFaults, faultsOf, settled, FineRows, TablesAt}
 use Rattle.chain.specs.declared.Chain.{Chain}
 use Rattle.chain.specs.declared.ChainAnswer.{ChainAnswer}
 use Rattle.chain.proofs.Chain as K
@@ -83,7 +83,7 @@ use Rattle.chainfile.specs.Accepted.{Placed}
 use Rattle.chainfile.specs.declared.reader.Header.{Header}
 use Rattle.chainfile.proofs.reader.Header as S
 use Rattle.chainfile.proofs.reader.Header.Laws as S′
-use Rattle.chainfile.proofs.Reading.{Loading, load-none, slot-there, row-room, time-room, few-fine, load-more, fine-rows, tables-at, load-answer}
+use Rattle.chainfile.proofs.Reading.{Loading, load-none, slot-there, row-room, time-room, few-fine, load-more, fine-rows, tables-at, load-answer, fine-answer}
 use Rattle.chainfile.proofs.reader.blank as blank
 use Rattle.chainfile.proofs.reader.blank.Symbol as blank-def
 use Rattle.chainfile.proofs.reader.blank.Symbol.{name as #blank}
@@ -92,10 +92,14 @@ use Rattle.chainfile.proofs.reader.tallied as tallied
 use Rattle.chainfile.proofs.reader.tallied.Symbol as tallied-def
 use Rattle.chainfile.proofs.reader.tallied.Symbol.{name as #tallied}
 use Rattle.chainfile.proofs.reader.tallied.Met as tallied-thm
-use Rattle.chainfile.proofs.reader.concluded as concluded
-use Rattle.chainfile.proofs.reader.concluded.Symbol as concluded-def
-use Rattle.chainfile.proofs.reader.concluded.Symbol.{name as #concluded}
-use Rattle.chainfile.proofs.reader.concluded.Met as concluded-thm
+use Rattle.chainfile.proofs.reader.refused_rows as refused
+use Rattle.chainfile.proofs.reader.refused_rows.Symbol as refused-def
+use Rattle.chainfile.proofs.reader.refused_rows.Symbol.{name as #refused-rows}
+use Rattle.chainfile.proofs.reader.refused_rows.Met as refused-thm
+use Rattle.chainfile.proofs.reader.fine_rows as fine
+use Rattle.chainfile.proofs.reader.fine_rows.Symbol as fine-def
+use Rattle.chainfile.proofs.reader.fine_rows.Symbol.{name as #fine-rows}
+use Rattle.chainfile.proofs.reader.fine_rows.Met as fine-thm
 use Rattle.chainfile.proofs.reader.load.Key.{name as #load}
 use Rattle.chainfile.proofs.reader.load as loads
 use Rattle.chainfile.proofs.reader.load.Statement as stated
@@ -145,8 +149,11 @@ module _ {M : Type 1} (𝓤 : URA M) (H : Heap 𝓤) (A : Atoms 𝓤) (W : Given
   abbrev TalliedC : Contract 𝓤
   TalliedC = tripleOf 𝓤 H A tallied.signature (tallied.spec 𝓤 H A at-mem run)
 
-  abbrev ConcludedC : Contract 𝓤
-  ConcludedC = tripleOf 𝓤 H A concluded.signature (concluded.spec 𝓤 H A at-mem run)
+  abbrev RefusedC : Contract 𝓤
+  RefusedC = tripleOf 𝓤 H A refused.signature (refused.spec 𝓤 H A at-mem run)
+
+  abbrev FineC : Contract 𝓤
+  FineC = tripleOf 𝓤 H A fine.signature (fine.spec 𝓤 H A at-mem run)
 
   module _ (κ : Lft) (q : Share) (s : RefT (List ℕ)) (hd : Header) (places : Placed (now s)) (is : hd ≡ headerOf (now s)) (hd-is : Is S.the-row hd (VH hd ∷ [])) where
     abbrev v : Val
@@ -207,24 +214,41 @@ module _ {M : Type 1} (𝓤 : URA M) (H : Heap 𝓤) (A : Atoms 𝓤) (W : Given
       tallied-said : (r : ℕ) → ent 𝓤 (tally r) (fact 𝓤 (Tallied r))
       tallied-said r = exE 𝓤 _ (λ ws. snd∗ 𝓤 (sem 𝓤 H A (lasts tallied.ended tt (fine, (i, (row, (e, tt)))) ws)) (fact 𝓤 (Tallied r)))
 
-    -- the call of `concluded`
+    -- the call of `refused_rows`
     module _ (c : Chain) (fine : ℕ) (rows : FineRows c fine) (tables : TablesAt (c .n) (hd .queues) (hd .nodes)) (c-is : Is K.the-row c (VK c ∷ [])) (fine-fits : fine < 2 ^ 64) where
-      abbrev to-concluded : ConcludedC .Ghost
-      to-concluded = ((tt, tt, tt, (c, (fine, (hd, tt))), (VK c ∷ [], (vint w64 fine ∷ [], (VH hd ∷ [], tt)))), tt)
+      abbrev to-refused : RefusedC .Ghost
+      to-refused = ((tt, tt, tt, (c, (fine, (hd, tt))), (VK c ∷ [], (vint w64 fine ∷ [], (VH hd ∷ [], tt)))), tt)
 
-      goes-concluded : ent 𝓤 (emp 𝓤) (ConcludedC .pre to-concluded)
-      goes-concluded =
+      goes-refused : ent 𝓤 (emp 𝓤) (RefusedC .pre to-refused)
+      goes-refused =
           qed W (‵ ftrue ∷ []) ∵ says ! (rows, tables) $ owned ! S.the-row (Is S.the-row) (LL.makes S.the-type S′.the-plain 𝓤 H A) hd _ hd-is $ fjoin ! $
           owned ! usize (Is usize) (uint-makes 𝓤 H A W w64) fine _ (refl, fine-fits) $ fjoin ! $ owned ! K.the-row (Is K.the-row) (LL.makes K.the-type K′.the-plain 𝓤 H A) c _ c-is $ fjoin ! $ nothing ! $ frame ! $ done !
 
-      abbrev Concluded : ChainAnswer → Type 0
-      Concluded a = a ≡ answered (settled (c .period) (faultsOf (rowOf c) (workOf c) (hd .queues) (hd .nodes) (c .n))) c
+      abbrev Refused : ChainAnswer → Type 0
+      Refused a = a ≡ answered (settled (c .period) (faultsOf (rowOf c) (workOf c) (hd .queues) (hd .nodes) (c .n))) c
 
-      abbrev conclusion : ChainAnswer → SProp 𝓤
-      conclusion a = ensured 𝓤 H A concluded.ended (concluded.clauses 𝓤 H A at-mem run) tt (c, (fine, (hd, tt))) tt a
+      abbrev refusing : ChainAnswer → SProp 𝓤
+      refusing a = ensured 𝓤 H A refused.ended (refused.clauses 𝓤 H A at-mem run) tt (c, (fine, (hd, tt))) tt a
 
-      concluded-said : (a : ChainAnswer) → ent 𝓤 (conclusion a) (fact 𝓤 (Concluded a))
-      concluded-said a = exE 𝓤 _ (λ ws. snd∗ 𝓤 (sem 𝓤 H A (lasts concluded.ended tt (c, (fine, (hd, tt))) ws)) (fact 𝓤 (Concluded a)))
+      refused-said : (a : ChainAnswer) → ent 𝓤 (refusing a) (fact 𝓤 (Refused a))
+      refused-said a = exE 𝓤 _ (λ ws. snd∗ 𝓤 (sem 𝓤 H A (lasts refused.ended tt (c, (fine, (hd, tt))) ws)) (fact 𝓤 (Refused a)))
+
+    -- the call of `fine_rows`
+    module _ (c : Chain) (c-is : Is K.the-row c (VK c ∷ [])) where
+      abbrev to-fine : FineC .Ghost
+      to-fine = ((tt, tt, tt, (c, tt), (VK c ∷ [], tt)), tt)
+
+      goes-fine : ent 𝓤 (emp 𝓤) (FineC .pre to-fine)
+      goes-fine = qed W (‵ ftrue ∷ []) ∵ owned ! K.the-row (Is K.the-row) (LL.makes K.the-type K′.the-plain 𝓤 H A) c _ c-is $ fjoin ! $ nothing ! $ join ! $ frame ! $ done !
+
+      abbrev Fine : ChainAnswer → Type 0
+      Fine a = a ≡ answered (settled (c .period) noFaults) c
+
+      abbrev answering : ChainAnswer → SProp 𝓤
+      answering a = ensured 𝓤 H A fine.ended (fine.clauses 𝓤 H A at-mem run) tt (c, tt) tt a
+
+      fine-said : (a : ChainAnswer) → ent 𝓤 (answering a) (fact 𝓤 (Fine a))
+      fine-said a = exE 𝓤 _ (λ ws. snd∗ 𝓤 (sem 𝓤 H A (lasts fine.ended tt (c, tt) ws)) (fact 𝓤 (Fine a)))
 
     exits : (a : ChainAnswer) → a ≡ answered (rowsRefusal f) (chainOf f) → Is N.the-row a (VN a ∷ []) → ent 𝓤 (⋆ 𝓤 H A ((‵ (flft κ q) ⊛ ‵ ftrue) ∷ ‵ (Slice κ s) ∷ [])) (Post (VN a))
     exits a e a-is =
@@ -280,7 +304,7 @@ module _ {M : Type 1} (𝓤 : URA M) (H : Heap 𝓤) (A : Atoms 𝓤) (W : Given
         stored = ap₂ record-of (sym (values-set Q.the-field Q′.the-field-laws (t .c .queues) (t .i) row)) (sym (values-set u32-field u32-laws (t .c .work) (t .i) e))
 
     module _ (𝓣 : Tables 𝓤 H) (known-seek : Triple 𝓤 (𝓣 .C #words·seek) (SeekC 𝓤 H A W at-mem run)) (known-row : Triple 𝓤 (𝓣 .C #words·take-row) (Takes Q.the-row 20 rowAt 𝓤 H A)) (known-take : Triple 𝓤 (𝓣 .C #words·take) (Takes u32 4 wordAt 𝓤 H A))
-        (known-blank : Triple 𝓤 (𝓣 .C #blank) BlankC) (known-tallied : Triple 𝓤 (𝓣 .C #tallied) TalliedC) (known-concluded : Triple 𝓤 (𝓣 .C #concluded) ConcludedC) where
+        (known-blank : Triple 𝓤 (𝓣 .C #blank) BlankC) (known-tallied : Triple 𝓤 (𝓣 .C #tallied) TalliedC) (known-refused : Triple 𝓤 (𝓣 .C #refused-rows) RefusedC) (known-fine : Triple 𝓤 (𝓣 .C #fine-rows) FineC) where
       abbrev C : Calls 𝓤 H
       C = 𝓣 .C
 
@@ -290,9 +314,9 @@ module _ {M : Type 1} (𝓤 : URA M) (H : Heap 𝓤) (A : Atoms 𝓤) (W : Given
       fm : FmC 𝓤 H (W .laws) C
       fm = fmOf 𝓤 H (W .laws) 𝓣
 
-      module _ (l₀ l₁ l₂ l₃ l₄ l₅ l₆ l₇ l₈ l₉ l₁₀ l₁₁ l₁₂ l₁₃ l₁₄ l₁₅ l₁₆ l₁₇ l₁₈ l₁₉ l₂₀ l₂₁ : ℕ) where
+      module _ (l₀ l₁ l₂ l₃ l₄ l₅ l₆ l₇ l₈ l₉ l₁₀ l₁₁ l₁₂ l₁₃ l₁₄ l₁₅ l₁₆ l₁₇ l₁₈ l₁₉ l₂₀ l₂₁ l₂₂ l₂₃ : ℕ) where
         abbrev En : Env 𝓤 H
-        En = env 𝓤 H body.locals (l₀ ∷ l₁ ∷ l₂ ∷ l₃ ∷ l₄ ∷ l₅ ∷ l₆ ∷ l₇ ∷ l₈ ∷ l₉ ∷ l₁₀ ∷ l₁₁ ∷ l₁₂ ∷ l₁₃ ∷ l₁₄ ∷ l₁₅ ∷ l₁₆ ∷ l₁₇ ∷ l₁₈ ∷ l₁₉ ∷ l₂₀ ∷ l₂₁ ∷ [])
+        En = env 𝓤 H body.locals (l₀ ∷ l₁ ∷ l₂ ∷ l₃ ∷ l₄ ∷ l₅ ∷ l₆ ∷ l₇ ∷ l₈ ∷ l₉ ∷ l₁₀ ∷ l₁₁ ∷ l₁₂ ∷ l₁₃ ∷ l₁₄ ∷ l₁₅ ∷ l₁₆ ∷ l₁₇ ∷ l₁₈ ∷ l₁₉ ∷ l₂₀ ∷ l₂₁ ∷ l₂₂ ∷ l₂₃ ∷ [])
 
         -- local k: its cell with a value, room for one, and what frees it
         abbrev has : ℕ → Val → Item 𝓤
@@ -304,11 +328,21 @@ module _ {M : Type 1} (𝓤 : URA M) (H : Heap 𝓤) (A : Atoms 𝓤) (W : Given
         abbrev dies : ℕ → Item 𝓤
         dies k = ‵ (fdies (spotOf 𝓤 H En k .0) (spotOf 𝓤 H En k .1))
 
-        -- [the rows' reader; what it owns; the token; the times' reader (3); what it owns; what bytes owns; _21 (6); …; _17 (14); _16; _15 (18); _14 (20); _13 (22); …; _10 (28); _9 (30); _8 (32); _7; _6; _5 (38); …; what frees _4 and _3; _2 (42); _1; _0 (46); …]
+        -- the two readers, each with what it owns, the token between them, and what bytes owns
+        abbrev Readers : Turn f → List (Item 𝓤) → List (Item 𝓤)
+        Readers t Γ = has 3 (T′.lowered (reader (t .at))) ∷ ‵ (Own κ (reader (t .at))) ∷ (‵ (flft κ q) ⊛ ‵ ftrue) ∷ has 4 (T′.lowered (reader (t .to))) ∷ ‵ (Own κ (reader (t .to))) ∷ ‵ (Slice κ s) ∷ Γ
+
+        -- room for the locals of a turn and of the way out
+        abbrev Free : List (Item 𝓤) → List (Item 𝓤)
+        Free Γ = room 23 ∷ dies 23 ∷ room 22 ∷ dies 22 ∷ room 21 ∷ dies 21 ∷ room 20 ∷ dies 20 ∷ room 19 ∷ dies 19 ∷ room 18 ∷ dies 18 ∷ room 17 ∷ dies 17 ∷ room 16 ∷ dies 16 ∷ room 15 ∷ dies 15 ∷ room 14 ∷ dies 14 ∷ room 13 ∷ dies 13 ∷ room 12 ∷ dies 12 ∷ room 11 ∷ dies 11 ∷ room 10 ∷ dies 10 ∷ room 9 ∷ dies 9 ∷ Γ
+
+        -- [the rows' reader; what it owns; the token; the times' reader (3); what it owns; what bytes owns; _23 (6); _22 (8); _21 (10); …; _17 (18); _16; _15 (22); _14 (24); _13 (26); …; _10 (32); _9 (34); _8 (36); _7; _6; _5 (42); …; what frees _4 and _3; _2 (46); _1; _0 (50); …]
         abbrev At : Turn f → List (Item 𝓤)
-        At t = has 3 (T′.lowered (reader (t .at))) ∷ ‵ (Own κ (reader (t .at))) ∷ (‵ (flft κ q) ⊛ ‵ ftrue) ∷ has 4 (T′.lowered (reader (t .to))) ∷ ‵ (Own κ (reader (t .to))) ∷ ‵ (Slice κ s)
-            ∷ room 21 ∷ dies 21 ∷ room 20 ∷ dies 20 ∷ room 19 ∷ dies 19 ∷ room 18 ∷ dies 18 ∷ room 17 ∷ dies 17 ∷ room 16 ∷ dies 16 ∷ room 15 ∷ dies 15 ∷ room 14 ∷ dies 14 ∷ room 13 ∷ dies 13 ∷ room 12 ∷ dies 12 ∷ room 11 ∷ dies 11 ∷ room 10 ∷ dies 10 ∷ room 9 ∷ dies 9
-            ∷ has 8 (vint w64 (t .i)) ∷ dies 8 ∷ has 7 (vint w64 (t .fine)) ∷ dies 7 ∷ has 6 (vint w64 (hd .n)) ∷ dies 6 ∷ has 5 (VK (t .c)) ∷ dies 5 ∷ dies 4 ∷ dies 3 ∷ has 2 (VH hd) ∷ dies 2 ∷ has 1 v ∷ dies 1 ∷ room 0 ∷ dies 0 ∷ []
+        At t = Readers t (Free (has 8 (vint w64 (t .i)) ∷ dies 8 ∷ has 7 (vint w64 (t .fine)) ∷ dies 7 ∷ has 6 (vint w64 (hd .n)) ∷ dies 6 ∷ has 5 (VK (t .c)) ∷ dies 5 ∷ dies 4 ∷ dies 3 ∷ has 2 (VH hd) ∷ dies 2 ∷ has 1 v ∷ dies 1 ∷ room 0 ∷ dies 0 ∷ []))
+
+        -- the same with every local but the readers let go
+        abbrev Left : Turn f → List (Item 𝓤)
+        Left t = Readers t (Free (room 8 ∷ dies 8 ∷ room 7 ∷ dies 7 ∷ room 6 ∷ dies 6 ∷ room 5 ∷ dies 5 ∷ dies 4 ∷ dies 3 ∷ room 2 ∷ dies 2 ∷ room 1 ∷ dies 1 ∷ room 0 ∷ dies 0 ∷ []))
 
         abbrev Turned : Turn f → Out → SProp 𝓤
         Turned t = afterTurn 𝓤 H (Below 𝓤 H A Nearer At t) (afterBlock 𝓤 H (afterSeq 𝓤 H (Wp 𝓤 H C Λ En body.t-13 (atReturn 𝓤 H En Post)) (atReturn 𝓤 H En Post)))
@@ -316,31 +350,31 @@ module _ {M : Type 1} (𝓤 : URA M) (H : Heap 𝓤) (A : Atoms 𝓤) (W : Given
         more : (t : Turn f) → ltb (t .i) (hd .n) ≡ true → Sq W (At t) (runs C Λ En body.turn-1 (anyQ (Turned t)))
         unfolding afterTurn
         more t less =
-            assigns ! (bin ! (load ! (from ! (stop !)) (look ! 32 refl)) (load ! (from ! (stop !)) (look ! 36 refl)) tt) (from ! (stop !)) (init ! 20 refl (tt, tt)) $
-            rewrite ! 20 (λ (b : Bool). has 14 (vbool b)) less refl $ stays ! (load ! (from ! (stop !)) (look ! 20 refl)) $
-            assigns ! (addr ! (from ! (stop !))) (from ! (stop !)) (init ! 18 refl (tt, tt)) $
-            takes 𝓤 H A W at-mem run κ q l₃ Q.the-row 20 rowAt VQ (LL.tells Q.the-type Q′.the-laws) (reader (t .at)) (row-room f places (t .stands) l) ! fm known-row (λ i j k. and-then ! (load ! (from ! (stop !)) (look ! 18 refl)) (no-more !)) (λ row row-at row-is.
-            land ! (from ! (stop !)) (init ! 30 refl (typed-row row row-is)) $
-            assigns ! (addr ! (from ! (stop !))) (from ! (stop !)) (init ! 16 refl (tt, tt)) $ move ! (3 ∷ 4 ∷ 2 ∷ []) $
-            takes 𝓤 H A W at-mem run κ q l₄ u32 4 wordAt (vint w32) (uint-tells w32) (reader (t .to)) (time-room f places (t .stands) l) ! fm known-take (λ i j k. and-then ! (load ! (from ! (stop !)) (look ! 16 refl)) (no-more !)) (λ e e-at e-is.
-            land ! (from ! (stop !)) (init ! 28 refl (tt, record { fits = e-is .1 })) $
+            assigns ! (bin ! (load ! (from ! (stop !)) (look ! 36 refl)) (load ! (from ! (stop !)) (look ! 40 refl)) tt) (from ! (stop !)) (init ! 24 refl (tt, tt)) $
+            rewrite ! 24 (λ (b : Bool). has 14 (vbool b)) less refl $ stays ! (load ! (from ! (stop !)) (look ! 24 refl)) $
+            assigns ! (addr ! (from ! (stop !))) (from ! (stop !)) (init ! 22 refl (tt, tt)) $
+            takes 𝓤 H A W at-mem run κ q l₃ Q.the-row 20 rowAt VQ (LL.tells Q.the-type Q′.the-laws) (reader (t .at)) (row-room f places (t .stands) l) ! fm known-row (λ i j k. and-then ! (load ! (from ! (stop !)) (look ! 22 refl)) (no-more !)) (λ row row-at row-is.
+            land ! (from ! (stop !)) (init ! 34 refl (typed-row row row-is)) $
+            assigns ! (addr ! (from ! (stop !))) (from ! (stop !)) (init ! 20 refl (tt, tt)) $ move ! (3 ∷ 4 ∷ 2 ∷ []) $
+            takes 𝓤 H A W at-mem run κ q l₄ u32 4 wordAt (vint w32) (uint-tells w32) (reader (t .to)) (time-room f places (t .stands) l) ! fm known-take (λ i j k. and-then ! (load ! (from ! (stop !)) (look ! 20 refl)) (no-more !)) (λ e e-at e-is.
+            land ! (from ! (stop !)) (init ! 32 refl (tt, record { fits = e-is .1 })) $
             calls-plain 𝓤 H A W usize (vint w64) (uint-tells w64) TalliedC (to-tallied (t .fine) (t .i) row e few (fits t .0) row-is (e-is .1)) (goes-tallied (t .fine) (t .i) row e few (fits t .0) row-is (e-is .1))
             (tally (t .fine) (t .i) row e few (fits t .0) row-is (e-is .1)) (λ w. id⊢ 𝓤 _) (Tallied (t .fine) (t .i) row e few (fits t .0) row-is (e-is .1)) (tallied-said (t .fine) (t .i) row e few (fits t .0) row-is (e-is .1)) ! fm known-tallied
-            (λ i. and-then ! (load ! (from ! (stop !)) (look ! 35 refl)) (and-then ! (load ! (from ! (stop !)) (look ! 33 refl)) (and-then ! (load ! (from ! (stop !)) (look ! 31 refl)) (and-then ! (load ! (from ! (stop !)) (look ! 29 refl)) (no-more !))))) (λ fine′ counted fine-is.
-            land ! (from ! (stop !)) (store ! 34 refl (tt, record { fits = fine-is .1 })) $
+            (λ i. and-then ! (load ! (from ! (stop !)) (look ! 39 refl)) (and-then ! (load ! (from ! (stop !)) (look ! 37 refl)) (and-then ! (load ! (from ! (stop !)) (look ! 35 refl)) (and-then ! (load ! (from ! (stop !)) (look ! 33 refl)) (no-more !))))) (λ fine′ counted fine-is.
+            land ! (from ! (stop !)) (store ! 38 refl (tt, record { fits = fine-is .1 })) $
             -- the row goes into its slot
-            assigns ! (bin ! (load ! (from ! (stop !)) (look ! 32 refl)) (lit ! tt) (record { fits = omega (arith, small) })) (from ! (stop !)) (init ! 14 refl (tt, record { fits = omega (arith, small) })) $
-            assigns ! (addr ! (from ! (fld ! refl (stop !)))) (from ! (stop !)) (init ! 12 refl (tt, tt)) $
-            assigns ! (bin ! (load ! (from ! (stop !)) (look ! 12 refl)) (load ! (from ! (stop !)) (look ! 14 refl)) tt) (from ! (stop !)) (init ! 10 refl (tt, tt)) $
-            assigns ! (of-opd ! (load ! (from ! (stop !)) (look ! 30 refl))) (from ! (hop ! (look ! 10 refl) (stop !))) (store-in ! 38 (elem ! (values Q.the-field Q′.the-field-laws (t .c .queues)) (t .i) (omega (arith, small, rows-long)) rows-long (sub ! 2 refl (whole !))) (typed-row row row-is)) $
+            assigns ! (bin ! (load ! (from ! (stop !)) (look ! 36 refl)) (lit ! tt) (record { fits = omega (arith, small) })) (from ! (stop !)) (init ! 18 refl (tt, record { fits = omega (arith, small) })) $
+            assigns ! (addr ! (from ! (fld ! refl (stop !)))) (from ! (stop !)) (init ! 16 refl (tt, tt)) $
+            assigns ! (bin ! (load ! (from ! (stop !)) (look ! 16 refl)) (load ! (from ! (stop !)) (look ! 18 refl)) tt) (from ! (stop !)) (init ! 14 refl (tt, tt)) $
+            assigns ! (of-opd ! (load ! (from ! (stop !)) (look ! 34 refl))) (from ! (hop ! (look ! 14 refl) (stop !))) (store-in ! 42 (elem ! (values Q.the-field Q′.the-field-laws (t .c .queues)) (t .i) (omega (arith, small, rows-long)) rows-long (sub ! 2 refl (whole !))) (typed-row row row-is)) $
             -- and the word into its own
-            assigns ! (bin ! (load ! (from ! (stop !)) (look ! 32 refl)) (lit ! tt) (record { fits = omega (arith, small) })) (from ! (stop !)) (store ! 14 refl (tt, record { fits = omega (arith, small) })) $
-            assigns ! (addr ! (from ! (fld ! refl (stop !)))) (from ! (stop !)) (init ! 8 refl (tt, tt)) $
-            assigns ! (bin ! (load ! (from ! (stop !)) (look ! 8 refl)) (load ! (from ! (stop !)) (look ! 14 refl)) tt) (from ! (stop !)) (init ! 6 refl (tt, tt)) $
-            assigns ! (of-opd ! (load ! (from ! (stop !)) (look ! 28 refl))) (from ! (hop ! (look ! 6 refl) (stop !))) (store-in ! 38 (elem ! (values u32-field u32-laws (t .c .work)) (t .i) (omega (arith, small, times-long)) times-long (sub ! 3 refl (whole !))) (tt, record { fits = e-is .1 })) $
-            assigns-last ! (bin ! (load ! (from ! (stop !)) (look ! 32 refl)) (lit ! tt) (record { fits = omega (arith, small) })) (from ! (stop !)) (store ! 32 refl (tt, record { fits = omega (arith, small) })) $
-            rewrite ! 38 (λ (u : Val). has 5 u) (stored t l row e fine′ row-at e-at counted row-is (e-is .1)) refl $
-            forget ! 6 refl $ forget ! 8 refl $ forget ! 10 refl $ forget ! 12 refl $ forget ! 14 refl $ forget ! 16 refl $ forget ! 18 refl $ forget ! 20 refl $ forget ! 28 refl $ forget ! 30 refl $ move ! (3 ∷ 4 ∷ 2 ∷ []) $
+            assigns ! (bin ! (load ! (from ! (stop !)) (look ! 36 refl)) (lit ! tt) (record { fits = omega (arith, small) })) (from ! (stop !)) (store ! 18 refl (tt, record { fits = omega (arith, small) })) $
+            assigns ! (addr ! (from ! (fld ! refl (stop !)))) (from ! (stop !)) (init ! 12 refl (tt, tt)) $
+            assigns ! (bin ! (load ! (from ! (stop !)) (look ! 12 refl)) (load ! (from ! (stop !)) (look ! 18 refl)) tt) (from ! (stop !)) (init ! 10 refl (tt, tt)) $
+            assigns ! (of-opd ! (load ! (from ! (stop !)) (look ! 32 refl))) (from ! (hop ! (look ! 10 refl) (stop !))) (store-in ! 42 (elem ! (values u32-field u32-laws (t .c .work)) (t .i) (omega (arith, small, times-long)) times-long (sub ! 3 refl (whole !))) (tt, record { fits = e-is .1 })) $
+            assigns-last ! (bin ! (load ! (from ! (stop !)) (look ! 36 refl)) (lit ! tt) (record { fits = omega (arith, small) })) (from ! (stop !)) (store ! 36 refl (tt, record { fits = omega (arith, small) })) $
+            rewrite ! 42 (λ (u : Val). has 5 u) (stored t l row e fine′ row-at e-at counted row-is (e-is .1)) refl $
+            forget ! 10 refl $ forget ! 12 refl $ forget ! 14 refl $ forget ! 16 refl $ forget ! 18 refl $ forget ! 20 refl $ forget ! 22 refl $ forget ! 24 refl $ forget ! 32 refl $ forget ! 34 refl $ move ! (3 ∷ 4 ∷ 2 ∷ []) $
             again ! Nearer At t (next t l row e fine′ row-at e-at counted row-is (e-is .1)) (nearer t l row e fine′ row-at e-at counted row-is (e-is .1)))))
           where
             l : t .i < countOf f
@@ -361,22 +395,34 @@ module _ {M : Type 1} (𝓤 : URA M) (H : Heap 𝓤) (A : Atoms 𝓤) (W : Given
             typed-row : (row : Queue) → Is Q.the-row row (VQ row ∷ []) → Holds (hasTy Q′.mir (VQ row)) × WT (VQ row)
             typed-row row row-is = LL.lawful Q.the-type Q′.the-laws 𝓤 H A W .typed row _ row-is .0
 
+        -- all locals but the readers' hold nothing that is used any more, and are freed
+        leaves : (t : Turn f) (a : ChainAnswer) → a ≡ answered (rowsRefusal f) (chainOf f) → Is N.the-row a (VN a ∷ []) → Sq W (Left t) (frees En (prop (Post (VN a))))
+        leaves t a e a-is =
+            forget ! 0 refl $ forget ! 3 refl $
+            move ! (50 ∷ 51 ∷ []) $ free1 ! $ move ! (48 ∷ 49 ∷ []) $ free1 ! $ move ! (46 ∷ 47 ∷ []) $ free1 ! $ move ! (0 ∷ 45 ∷ []) $ free1 ! $ move ! (2 ∷ 43 ∷ []) $ free1 ! $ move ! (40 ∷ 41 ∷ []) $ free1 ! $ move ! (38 ∷ 39 ∷ []) $ free1 ! $
+            move ! (36 ∷ 37 ∷ []) $ free1 ! $ move ! (34 ∷ 35 ∷ []) $ free1 ! $ move ! (32 ∷ 33 ∷ []) $ free1 ! $ move ! (30 ∷ 31 ∷ []) $ free1 ! $ move ! (28 ∷ 29 ∷ []) $ free1 ! $ move ! (26 ∷ 27 ∷ []) $ free1 ! $ move ! (24 ∷ 25 ∷ []) $ free1 ! $
+            move ! (22 ∷ 23 ∷ []) $ free1 ! $ move ! (20 ∷ 21 ∷ []) $ free1 ! $ move ! (18 ∷ 19 ∷ []) $ free1 ! $ move ! (16 ∷ 17 ∷ []) $ free1 ! $ move ! (14 ∷ 15 ∷ []) $ free1 ! $ move ! (12 ∷ 13 ∷ []) $ free1 ! $ move ! (10 ∷ 11 ∷ []) $ free1 ! $
+            move ! (8 ∷ 9 ∷ []) $ free1 ! $ move ! (6 ∷ 7 ∷ []) $ free1 ! $ move ! (4 ∷ 5 ∷ []) $ free1 ! $ free0 ! $
+            keep ! (1 ∷ 3 ∷ []) $ by ! (exits a e a-is)
+
         ends : (t : Turn f) → ltb (t .i) (hd .n) ≡ false → Sq W (At t) (runs C Λ En body.turn-1 (anyQ (Turned t)))
         unfolding afterTurn
         ends t over =
-            assigns ! (bin ! (load ! (from ! (stop !)) (look ! 32 refl)) (load ! (from ! (stop !)) (look ! 36 refl)) tt) (from ! (stop !)) (init ! 20 refl (tt, tt)) $
-            rewrite ! 20 (λ (b : Bool). has 14 (vbool b)) over refl $ leaves-loop ! (load ! (from ! (stop !)) (look ! 20 refl)) $ exec ! C Λ En body.t-13 (atRet En Post) $
-            assigns ! (of-opd ! (load ! (from ! (stop !)) (look ! 38 refl))) (from ! (stop !)) (init ! 22 refl (LL.lawful K.the-type K′.the-laws 𝓤 H A W .typed (t .c) _ (chain-is t) .0)) $
-            calls-plain 𝓤 H A W N.the-row VN (LL.tells N.the-type N′.the-laws) ConcludedC (to-concluded (t .c) (t .fine) rows tables (chain-is t) (fits t .1)) (goes-concluded (t .c) (t .fine) rows tables (chain-is t) (fits t .1))
-            (conclusion (t .c) (t .fine) rows tables (chain-is t) (fits t .1)) (λ w. id⊢ 𝓤 _) (Concluded (t .c) (t .fine) rows tables (chain-is t) (fits t .1)) (concluded-said (t .c) (t .fine) rows tables (chain-is t) (fits t .1)) ! fm known-concluded
-            (λ i. and-then ! (load ! (from ! (stop !)) (look ! 23 refl)) (and-then ! (load ! (from ! (stop !)) (look ! 35 refl)) (and-then ! (load ! (from ! (stop !)) (look ! 43 refl)) (no-more !)))) (λ a e a-is.
-            land ! (from ! (stop !)) (init ! 46 refl (LL.lawful N.the-type N′.the-laws 𝓤 H A W .typed a _ a-is .0)) $
-            returns ! (look ! 46 refl) $ forget ! 0 refl $ forget ! 3 refl $ forget ! 20 refl $ forget ! 22 refl $ forget ! 32 refl $ forget ! 34 refl $ forget ! 36 refl $ forget ! 38 refl $ forget ! 42 refl $ forget ! 44 refl $ forget ! 46 refl $
-            move ! (46 ∷ 47 ∷ []) $ free1 ! $ move ! (44 ∷ 45 ∷ []) $ free1 ! $ move ! (42 ∷ 43 ∷ []) $ free1 ! $ move ! (0 ∷ 41 ∷ []) $ free1 ! $ move ! (2 ∷ 39 ∷ []) $ free1 ! $ move ! (36 ∷ 37 ∷ []) $ free1 ! $ move ! (34 ∷ 35 ∷ []) $ free1 ! $
-            move ! (32 ∷ 33 ∷ []) $ free1 ! $ move ! (30 ∷ 31 ∷ []) $ free1 ! $ move ! (28 ∷ 29 ∷ []) $ free1 ! $ move ! (26 ∷ 27 ∷ []) $ free1 ! $ move ! (24 ∷ 25 ∷ []) $ free1 ! $ move ! (22 ∷ 23 ∷ []) $ free1 ! $ move ! (20 ∷ 21 ∷ []) $ free1 ! $
-            move ! (18 ∷ 19 ∷ []) $ free1 ! $ move ! (16 ∷ 17 ∷ []) $ free1 ! $ move ! (14 ∷ 15 ∷ []) $ free1 ! $ move ! (12 ∷ 13 ∷ []) $ free1 ! $ move ! (10 ∷ 11 ∷ []) $ free1 ! $ move ! (8 ∷ 9 ∷ []) $ free1 ! $ move ! (6 ∷ 7 ∷ []) $ free1 ! $
-            move ! (4 ∷ 5 ∷ []) $ free1 ! $ free0 ! $
-            keep ! (1 ∷ 3 ∷ []) $ by ! (exits a (load-answer f places (t .stands) l is e) a-is))
+            assigns ! (bin ! (load ! (from ! (stop !)) (look ! 36 refl)) (load ! (from ! (stop !)) (look ! 40 refl)) tt) (from ! (stop !)) (init ! 24 refl (tt, tt)) $
+            rewrite ! 24 (λ (b : Bool). has 14 (vbool b)) over refl $ leaves-loop ! (load ! (from ! (stop !)) (look ! 24 refl)) $ exec ! C Λ En body.t-13 (atRet En Post) $
+            assigns ! (bin ! (load ! (from ! (stop !)) (look ! 38 refl)) (load ! (from ! (stop !)) (look ! 40 refl)) tt) (from ! (stop !)) (init ! 8 refl (tt, tt)) $
+            first ! $ branches ! (load ! (from ! (stop !)) (look ! 8 refl))
+            (λ less. assigns ! (of-opd ! (load ! (from ! (stop !)) (look ! 42 refl))) (from ! (stop !)) (init ! 6 refl typed-chain) $
+            calls-plain 𝓤 H A W N.the-row VN (LL.tells N.the-type N′.the-laws) RefusedC (to-refused (t .c) (t .fine) rows tables (chain-is t) (fits t .1)) (goes-refused (t .c) (t .fine) rows tables (chain-is t) (fits t .1))
+            (refusing (t .c) (t .fine) rows tables (chain-is t) (fits t .1)) (λ w. id⊢ 𝓤 _) (Refused (t .c) (t .fine) rows tables (chain-is t) (fits t .1)) (refused-said (t .c) (t .fine) rows tables (chain-is t) (fits t .1)) ! fm known-refused
+            (λ i. and-then ! (load ! (from ! (stop !)) (look ! 7 refl)) (and-then ! (load ! (from ! (stop !)) (look ! 39 refl)) (and-then ! (load ! (from ! (stop !)) (look ! 47 refl)) (no-more !)))) (λ a e a-is.
+            land ! (from ! (stop !)) (init ! 50 refl (typed-answer a a-is)) $ returns-within ! Post refl (look ! 50 refl) $ forget ! 6 refl $ forget ! 8 refl $ forget ! 24 refl $
+            forget ! 36 refl $ forget ! 38 refl $ forget ! 40 refl $ forget ! 42 refl $ forget ! 46 refl $ forget ! 48 refl $ forget ! 50 refl $ leaves t a (load-answer f places (t .stands) l is e) a-is))
+            (λ all. skips ! $ exec ! C Λ En body.t-15 (atRet En Post) $ assigns ! (of-opd ! (load ! (from ! (stop !)) (look ! 42 refl))) (from ! (stop !)) (init ! 26 refl typed-chain) $
+            calls-plain 𝓤 H A W N.the-row VN (LL.tells N.the-type N′.the-laws) FineC (to-fine (t .c) (chain-is t)) (goes-fine (t .c) (chain-is t)) (answering (t .c) (chain-is t)) (λ w. id⊢ 𝓤 _) (Fine (t .c) (chain-is t)) (fine-said (t .c) (chain-is t)) ! fm known-fine
+            (λ i. and-then ! (load ! (from ! (stop !)) (look ! 27 refl)) (no-more !)) (λ a e a-is.
+            land ! (from ! (stop !)) (init ! 50 refl (typed-answer a a-is)) $ returns ! (look ! 50 refl) $ forget ! 8 refl $ forget ! 24 refl $ forget ! 26 refl $
+            forget ! 36 refl $ forget ! 38 refl $ forget ! 40 refl $ forget ! 42 refl $ forget ! 46 refl $ forget ! 48 refl $ forget ! 50 refl $ leaves t a (fine-answer f places (t .stands) l is (nltb→le (t .fine) (hd .n) all) e) a-is))
           where
             l : countOf f ≤ t .i
             l = omega (arith, ltb-false (t .i) (hd .n) over, n-is)
@@ -386,6 +432,12 @@ module _ {M : Type 1} (𝓤 : URA M) (H : Heap 𝓤) (A : Atoms 𝓤) (W : Given
 
             tables : TablesAt (t .c .n) (hd .queues) (hd .nodes)
             tables = tables-at f places (t .stands) l is
+
+            typed-chain : Holds (hasTy K′.mir (VK (t .c))) × WT (VK (t .c))
+            typed-chain = LL.lawful K.the-type K′.the-laws 𝓤 H A W .typed (t .c) _ (chain-is t) .0
+
+            typed-answer : (a : ChainAnswer) → Is N.the-row a (VN a ∷ []) → Holds (hasTy N′.mir (VN a)) × WT (VN a)
+            typed-answer a a-is = LL.lawful N.the-type N′.the-laws 𝓤 H A W .typed a _ a-is .0
 
         turns : (t : Turn f) → Sq W (At t) (runs C Λ En body.turn-1 (anyQ (Turned t)))
         turns t = by-test (ltb (t .i) (hd .n)) refl
@@ -416,37 +468,37 @@ module _ {M : Type 1} (𝓤 : URA M) (H : Heap 𝓤) (A : Atoms 𝓤) (W : Given
       walk : Is (ShrSlice (named 0) κ u8) s (v ∷ []) → ent 𝓤 (onEntry 𝓤 H A loads.signature (κ, tt) (q, tt) (s, (hd, tt)) at) (WpFn 𝓤 H C Λ code.function (v ∷ VH hd ∷ []) Post)
       walk s-is =
           qed W ((‵ (flft κ q) ⊛ ‵ ftrue) ∷ ‵ (owns (ShrSlice (named 0) κ u8 ∷ S.the-row ∷ []) (s, (hd, tt)) at) ∷ []) ∵ enter ! C Λ code.function (v ∷ VH hd ∷ []) _ $
-          alloc1 ! (λ l₀. alloc1 ! (λ l₁. alloc1 ! (λ l₂. alloc1 ! (λ l₃. alloc1 ! (λ l₄. alloc1 ! (λ l₅. alloc1 ! (λ l₆. alloc1 ! (λ l₇. alloc1 ! (λ l₈. alloc1 ! (λ l₉. alloc1 ! (λ l₁₀. alloc1 ! (λ l₁₁. alloc1 ! (λ l₁₂. alloc1 ! (λ l₁₃. alloc1 ! (λ l₁₄. alloc1 ! (λ l₁₅. alloc1 ! (λ l₁₆. alloc1 ! (λ l₁₇. alloc1 ! (λ l₁₈. alloc1 ! (λ l₁₉. alloc1 ! (λ l₂₀. alloc1 ! (λ l₂₁. alloc0 ! $ params1 ! $
-          pass1 ! (init ! 40 refl (shr-slice-lawful 𝓤 H A W (named 0) κ u8 .typed s (v ∷ []) s-is .0)) $ pass1 ! (init ! 38 refl (LL.lawful S.the-type S′.the-laws 𝓤 H A W .typed hd _ hd-is .0)) $ pass0 ! $
-          move ! (45 ∷ []) $ fsplit ! $ move ! (1 ∷ []) $ drop ! $ move ! (0 ∷ 45 ∷ []) $
-          -- [what bytes owns; the token; room for _21 (2); …; _12 (20); _11 (22); …; _3 (38); …; _2 (40); …; _1 (42); …; room for _0 (44); …]
-          assigns ! (un ! (load ! (from ! (fld ! refl (stop !))) (look-in ! 40 (sub ! 2 refl (whole !)))) (record { fits = wide (words .1 .1 .0) })) (from ! (stop !)) (init ! 20 refl (tt, record { fits = wide (words .1 .1 .0) })) $
-          seeks 𝓤 H A W at-mem run κ q s (hd .queues) (wide (words .1 .1 .0)) ! fm known-seek (λ i j. and-then ! (load ! (from ! (stop !)) (look ! 42 refl)) (and-then ! (load ! (from ! (stop !)) (look ! 20 refl)) (no-more !))) (λ rows-was.
-          land ! (from ! (stop !)) (init ! 23 refl (typed 𝓤 H A W κ (reader (hd .queues)) rows-was)) $
-          assigns ! (of-opd ! (load ! (from ! (stop !)) (look ! 23 refl))) (from ! (stop !)) (init ! 39 refl (typed 𝓤 H A W κ (reader (hd .queues)) rows-was)) $
-          -- [what the rows' reader owns; the token; what bytes owns; room for _21 (3); …]
-          assigns ! (un ! (load ! (from ! (fld ! refl (stop !))) (look-in ! 41 (sub ! 3 refl (whole !)))) (record { fits = wide (words .1 .1 .1) })) (from ! (stop !)) (store ! 21 refl (tt, record { fits = wide (words .1 .1 .1) })) $ move ! (2 ∷ 1 ∷ []) $
-          seeks 𝓤 H A W at-mem run κ q s (hd .nodes) (wide (words .1 .1 .1)) ! fm known-seek (λ i j. and-then ! (load ! (from ! (stop !)) (look ! 43 refl)) (and-then ! (load ! (from ! (stop !)) (look ! 21 refl)) (no-more !))) (λ times-was.
-          land ! (from ! (stop !)) (store ! 24 refl (typed 𝓤 H A W κ (reader (hd .nodes)) times-was)) $
-          assigns ! (of-opd ! (load ! (from ! (stop !)) (look ! 24 refl))) (from ! (stop !)) (init ! 38 refl (typed 𝓤 H A W κ (reader (hd .nodes)) times-was)) $
-          -- [what the times' reader owns; the token; what bytes owns; what the rows' reader owns; room for _21 (4); …; _13 (20); …; _5 (36); …; _2 (42); …]
-          calls-plain 𝓤 H A W K.the-row VK (LL.tells K.the-type K′.the-laws) BlankC to-blank goes-blank blanked (λ w. id⊢ 𝓤 _) Blank blank-said ! fm known-blank (λ i. and-then ! (load ! (from ! (stop !)) (look ! 43 refl)) (no-more !)) (λ c b c-is.
-          land ! (from ! (stop !)) (init ! 20 refl (LL.lawful K.the-type K′.the-laws 𝓤 H A W .typed c _ c-is .0)) $
-          assigns ! (of-opd ! (load ! (from ! (stop !)) (look ! 20 refl))) (from ! (stop !)) (init ! 36 refl (LL.lawful K.the-type K′.the-laws 𝓤 H A W .typed c _ c-is .0)) $
-          assigns ! (un ! (load ! (from ! (fld ! refl (stop !))) (look-in ! 42 (sub ! 0 refl (whole !)))) (record { fits = wide (words .0) })) (from ! (stop !)) (init ! 34 refl (tt, record { fits = wide (words .0) })) $
-          assigns ! (of-opd ! (lit ! tt)) (from ! (stop !)) (init ! 32 refl (tt, record { fits = lit< tt })) $ assigns ! (of-opd ! (lit ! tt)) (from ! (stop !)) (init ! 30 refl (tt, record { fits = lit< tt })) $
-          forget ! 20 refl $ forget ! 22 refl $ forget ! 24 refl $ move ! (40 ∷ 3 ∷ 1 ∷ 38 ∷ 0 ∷ 2 ∷ []) $
-          first ! $ blocks ! $ loops ! 𝓣 Nearer Nearer-wf (At l₀ l₁ l₂ l₃ l₄ l₅ l₆ l₇ l₈ l₉ l₁₀ l₁₁ l₁₂ l₁₃ l₁₄ l₁₅ l₁₆ l₁₇ l₁₈ l₁₉ l₂₀ l₂₁) (turns l₀ l₁ l₂ l₃ l₄ l₅ l₆ l₇ l₈ l₉ l₁₀ l₁₁ l₁₂ l₁₃ l₁₄ l₁₅ l₁₆ l₁₇ l₁₈ l₁₉ l₂₀ l₂₁) (start c b c-is))))))))))))))))))))))))))
+          alloc1 ! (λ l₀. alloc1 ! (λ l₁. alloc1 ! (λ l₂. alloc1 ! (λ l₃. alloc1 ! (λ l₄. alloc1 ! (λ l₅. alloc1 ! (λ l₆. alloc1 ! (λ l₇. alloc1 ! (λ l₈. alloc1 ! (λ l₉. alloc1 ! (λ l₁₀. alloc1 ! (λ l₁₁. alloc1 ! (λ l₁₂. alloc1 ! (λ l₁₃. alloc1 ! (λ l₁₄. alloc1 ! (λ l₁₅. alloc1 ! (λ l₁₆. alloc1 ! (λ l₁₇. alloc1 ! (λ l₁₈. alloc1 ! (λ l₁₉. alloc1 ! (λ l₂₀. alloc1 ! (λ l₂₁. alloc1 ! (λ l₂₂. alloc1 ! (λ l₂₃. alloc0 ! $ params1 ! $
+          pass1 ! (init ! 44 refl (shr-slice-lawful 𝓤 H A W (named 0) κ u8 .typed s (v ∷ []) s-is .0)) $ pass1 ! (init ! 42 refl (LL.lawful S.the-type S′.the-laws 𝓤 H A W .typed hd _ hd-is .0)) $ pass0 ! $
+          move ! (49 ∷ []) $ fsplit ! $ move ! (1 ∷ []) $ drop ! $ move ! (0 ∷ 49 ∷ []) $
+          -- [what bytes owns; the token; room for _23 (2); …; _12 (24); _11 (26); …; _3 (42); …; _2 (44); …; _1 (46); …; room for _0 (48); …]
+          assigns ! (un ! (load ! (from ! (fld ! refl (stop !))) (look-in ! 44 (sub ! 2 refl (whole !)))) (record { fits = wide (words .1 .1 .0) })) (from ! (stop !)) (init ! 24 refl (tt, record { fits = wide (words .1 .1 .0) })) $
+          seeks 𝓤 H A W at-mem run κ q s (hd .queues) (wide (words .1 .1 .0)) ! fm known-seek (λ i j. and-then ! (load ! (from ! (stop !)) (look ! 46 refl)) (and-then ! (load ! (from ! (stop !)) (look ! 24 refl)) (no-more !))) (λ rows-was.
+          land ! (from ! (stop !)) (init ! 27 refl (typed 𝓤 H A W κ (reader (hd .queues)) rows-was)) $
+          assigns ! (of-opd ! (load ! (from ! (stop !)) (look ! 27 refl))) (from ! (stop !)) (init ! 43 refl (typed 𝓤 H A W κ (reader (hd .queues)) rows-was)) $
+          -- [what the rows' reader owns; the token; what bytes owns; room for _23 (3); …]
+          assigns ! (un ! (load ! (from ! (fld ! refl (stop !))) (look-in ! 45 (sub ! 3 refl (whole !)))) (record { fits = wide (words .1 .1 .1) })) (from ! (stop !)) (store ! 25 refl (tt, record { fits = wide (words .1 .1 .1) })) $ move ! (2 ∷ 1 ∷ []) $
+          seeks 𝓤 H A W at-mem run κ q s (hd .nodes) (wide (words .1 .1 .1)) ! fm known-seek (λ i j. and-then ! (load ! (from ! (stop !)) (look ! 47 refl)) (and-then ! (load ! (from ! (stop !)) (look ! 25 refl)) (no-more !))) (λ times-was.
+          land ! (from ! (stop !)) (store ! 28 refl (typed 𝓤 H A W κ (reader (hd .nodes)) times-was)) $
+          assigns ! (of-opd ! (load ! (from ! (stop !)) (look ! 28 refl))) (from ! (stop !)) (init ! 42 refl (typed 𝓤 H A W κ (reader (hd .nodes)) times-was)) $
+          -- [what the times' reader owns; the token; what bytes owns; what the rows' reader owns; room for _23 (4); …; _13 (24); …; _5 (40); …; _2 (46); …]
+          calls-plain 𝓤 H A W K.the-row VK (LL.tells K.the-type K′.the-laws) BlankC to-blank goes-blank blanked (λ w. id⊢ 𝓤 _) Blank blank-said ! fm known-blank (λ i. and-then ! (load ! (from ! (stop !)) (look ! 47 refl)) (no-more !)) (λ c b c-is.
+          land ! (from ! (stop !)) (init ! 24 refl (LL.lawful K.the-type K′.the-laws 𝓤 H A W .typed c _ c-is .0)) $
+          assigns ! (of-opd ! (load ! (from ! (stop !)) (look ! 24 refl))) (from ! (stop !)) (init ! 40 refl (LL.lawful K.the-type K′.the-laws 𝓤 H A W .typed c _ c-is .0)) $
+          assigns ! (un ! (load ! (from ! (fld ! refl (stop !))) (look-in ! 46 (sub ! 0 refl (whole !)))) (record { fits = wide (words .0) })) (from ! (stop !)) (init ! 38 refl (tt, record { fits = wide (words .0) })) $
+          assigns ! (of-opd ! (lit ! tt)) (from ! (stop !)) (init ! 36 refl (tt, record { fits = lit< tt })) $ assigns ! (of-opd ! (lit ! tt)) (from ! (stop !)) (init ! 34 refl (tt, record { fits = lit< tt })) $
+          forget ! 24 refl $ forget ! 26 refl $ forget ! 28 refl $ move ! (44 ∷ 3 ∷ 1 ∷ 42 ∷ 0 ∷ 2 ∷ []) $
+          first ! $ blocks ! $ loops ! 𝓣 Nearer Nearer-wf (At l₀ l₁ l₂ l₃ l₄ l₅ l₆ l₇ l₈ l₉ l₁₀ l₁₁ l₁₂ l₁₃ l₁₄ l₁₅ l₁₆ l₁₇ l₁₈ l₁₉ l₂₀ l₂₁ l₂₂ l₂₃) (turns l₀ l₁ l₂ l₃ l₄ l₅ l₆ l₇ l₈ l₉ l₁₀ l₁₁ l₁₂ l₁₃ l₁₄ l₁₅ l₁₆ l₁₇ l₁₈ l₁₉ l₂₀ l₂₁ l₂₂ l₂₃) (start c b c-is))))))))))))))))))))))))))))
         where
           wide : {n : ℕ} → n < 2 ^ 32 → n < 2 ^ 64
           wide h = omega arith
 
 module _ {M : Type 1} (𝓤 : URA M) (H : Heap 𝓤) (A : Atoms 𝓤) (W : Given 𝓤 H A) (mem : Memory → SProp 𝓤) (run : Routine → Fun 𝓤) (𝓣 : Tables 𝓤 H) (known-seek : Triple 𝓤 (𝓣 .C #words·seek) (SeekC 𝓤 H A W mem run)) (known-row : Triple 𝓤 (𝓣 .C #words·take-row) (Takes Q.the-row 20 rowAt 𝓤 H A)) (known-take : Triple 𝓤 (𝓣 .C #words·take) (Takes u32 4 wordAt 𝓤 H A))
-    (known-blank : Triple 𝓤 (𝓣 .C #blank) (BlankC 𝓤 H A W mem run)) (known-tallied : Triple 𝓤 (𝓣 .C #tallied) (TalliedC 𝓤 H A W mem run)) (known-concluded : Triple 𝓤 (𝓣 .C #concluded) (ConcludedC 𝓤 H A W mem run)) where
+    (known-blank : Triple 𝓤 (𝓣 .C #blank) (BlankC 𝓤 H A W mem run)) (known-tallied : Triple 𝓤 (𝓣 .C #tallied) (TalliedC 𝓤 H A W mem run)) (known-refused : Triple 𝓤 (𝓣 .C #refused-rows) (RefusedC 𝓤 H A W mem run)) (known-fine : Triple 𝓤 (𝓣 .C #fine-rows) (FineC 𝓤 H A W mem run)) where
   load-walks : Walks 𝓤 H A loads.ended stayed (WpFn 𝓤 H (𝓣 .C) (𝓣 .Λ) code.function) (loads.clauses 𝓤 H A mem run)
   load-walks = walked 𝓤 H A loads.ended stayed (loads.clauses 𝓤 H A mem run) (WpFn 𝓤 H (𝓣 .C) (𝓣 .Λ) code.function) (λ κs. (slice-vals, (LL.vals S.the-type S′.the-laws, tt))) (λ κs. (shr-slice-tells (named 0) (κs .0) u8, (LL.tells S.the-type S′.the-laws, tt)))
       (λ κs qs bounds a g are. needs 𝓤 (Placed (now (a .0)) × (a .1 .0 ≡ headerOf (now (a .0)))) _ (λ pre.
-      walk 𝓤 H A W mem run (κs .0) (qs .0) (a .0) (a .1 .0) (pre .0) (pre .1) (are .1 .0) 𝓣 known-seek known-row known-take known-blank known-tallied known-concluded (are .0)))
+      walk 𝓤 H A W mem run (κs .0) (qs .0) (a .0) (a .1 .0) (pre .0) (pre .1) (are .1 .0) 𝓣 known-seek known-row known-take known-blank known-tallied known-refused known-fine (are .0)))
 
   load-meets : Meets 𝓤 H A loads.signature (WpFn 𝓤 H (𝓣 .C) (𝓣 .Λ) code.function) (loads.spec 𝓤 H A mem run)
   load-meets =
@@ -464,4 +516,5 @@ load-spec 𝓤 H 𝓜 𝓖 𝓡 =
     (cited 𝓤 H (Takes u32 4 wordAt 𝓤 H (𝓖 .A)) 𝓜 𝓡 code.env #words·take take-def.routine code.calls-words·take (take-thm.met 𝓤 H 𝓜 𝓖 𝓡))
     (cited 𝓤 H (BlankC 𝓤 H (𝓖 .A) (givenOf 𝓤 H 𝓜 𝓖) (𝓜 .mem) (𝓡 .run)) 𝓜 𝓡 code.env #blank blank-def.routine code.calls-chainfile·reader·blank (blank-thm.met 𝓤 H 𝓜 𝓖 𝓡))
     (cited 𝓤 H (TalliedC 𝓤 H (𝓖 .A) (givenOf 𝓤 H 𝓜 𝓖) (𝓜 .mem) (𝓡 .run)) 𝓜 𝓡 code.env #tallied tallied-def.routine code.calls-chainfile·reader·tallied (tallied-thm.met 𝓤 H 𝓜 𝓖 𝓡))
-    (cited 𝓤 H (ConcludedC 𝓤 H (𝓖 .A) (givenOf 𝓤 H 𝓜 𝓖) (𝓜 .mem) (𝓡 .run)) 𝓜 𝓡 code.env #concluded concluded-def.routine code.calls-chainfile·reader·concluded (concluded-thm.met 𝓤 H 𝓜 𝓖 𝓡)))
+    (cited 𝓤 H (RefusedC 𝓤 H (𝓖 .A) (givenOf 𝓤 H 𝓜 𝓖) (𝓜 .mem) (𝓡 .run)) 𝓜 𝓡 code.env #refused-rows refused-def.routine code.calls-chainfile·reader·refused-rows (refused-thm.met 𝓤 H 𝓜 𝓖 𝓡))
+    (cited 𝓤 H (FineC 𝓤 H (𝓖 .A) (givenOf 𝓤 H 𝓜 𝓖) (𝓜 .mem) (𝓡 .run)) 𝓜 𝓡 code.env #fine-rows fine-def.routine code.calls-chainfile·reader·fine-rows (fine-thm.met 𝓤 H 𝓜 𝓖 𝓡)))
