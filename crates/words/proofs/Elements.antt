@@ -8,10 +8,10 @@
 --     Fitting          each element is a value of its type: fit-all, fit-set: of one value many times, and after one element is changed
 --     is-array         and then the list is a value of the array's type
 -- Assumes `Given`.
-use mathlib.Core.Path.{_≡_, refl, sym, ap, ap₂, _∙_, subst}
+use mathlib.Core.Path.{_≡_, refl, sym, ap, _∙_, subst}
 use mathlib.Core.List.{List, [], _∷_, map}
 use Prim.Native.Nat.{ℕ, zero, suc, _+_, _*_, _<_}
-use native.Mathlib.Nat.{not-suc-le-zero, zero-mul, zero-add, suc-mul, add-assoc, add-comm}
+use native.Mathlib.Nat.{not-suc-le-zero, zero-mul, zero-add, suc-mul}
 use native.Mathlib.Omega.{arith}
 use lib.ListN.{length, getD, set, replicate, length-set, length-map}
 use lib.Seq.{set-getD}
@@ -24,7 +24,7 @@ use prog.Memory.{size}
 use prog.Model.{elems}
 use prog.Wp.{Heap}
 use ghost.Atoms.{Atoms}
-use types.Kit.{Given, Item, ‵, raw, _⊛_, mean, _$_, _∵_, !, qed, move, use1, use2, split, join, rewrite, assume, frame, each, done}
+use types.Kit.{Given, Item, ‵, raw, _⊛_, mean, _$_, _∵_, !, qed, move, use1, use2, split, rewrite, assume, frame, each, done}
 use types.Part.{Part}
 use denote.Array.{Array, each as elements}
 use denote.Laws.{Is}
@@ -32,11 +32,11 @@ use denote.Shadow.{shadow}
 use denote.Struct.Field.{Field}
 use denote.Struct.Laws.{FLaws}
 
-abbrev pub place : ℕ → ℕ → ℕ → ℕ
+abbrev place : ℕ → ℕ → ℕ → ℕ
 place o s zero = o
 place o s (suc k) = place (o + s) s k
 
-pub place-is : (o s k : ℕ) → place o s k ≡ k * s + o
+place-is : (o s k : ℕ) → place o s k ≡ k * s + o
 place-is o s zero = sym (ap (λ (m : ℕ). m + o) (zero-mul s) ∙ zero-add o)
 place-is o s (suc k) = place-is (o + s) s k ∙ omega (arith, suc-mul k s)
 

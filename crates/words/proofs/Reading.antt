@@ -119,10 +119,10 @@ module _ {M : Type 1} (𝓤 : URA M) (H : Heap 𝓤) (A : Atoms 𝓤) (W : Given
     abbrev q₂ : Share
     q₂ = PosShare·right q
 
-    abbrev pub Cell : ChainReader → Fml
+    abbrev Cell : ChainReader → Fml
     Cell d = fat fullShare (T′.mir erased) l 0 (T′.lowered d)
 
-    abbrev pub held : ChainReader → List (Item 𝓤) → List (Item 𝓤)
+    abbrev held : ChainReader → List (Item 𝓤) → List (Item 𝓤)
     held d Γ = ‵ (Cell d) ∷ ‵ (Own κ d) ∷ (‵ (flft κ q) ⊛ ‵ ftrue) ∷ Γ
 
     -- a local's cell, with what the reader owns, is a reader in memory that can be lent, and back

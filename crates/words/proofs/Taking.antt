@@ -20,7 +20,7 @@ use base.Fml.{GName, Lft, Share, Fml, ftrue, fat, flft, fobs, fbor}
 use prog.Wp.{Heap, Calls, Loops, WpFn, Tables}
 use ghost.Atoms.{Atoms, sem}
 use contract.Lifetimes.{AllOutlive}
-use contract.Monad.{Fun, fact}
+use contract.Monad.{fact}
 use types.Kit.{Given, ‵, raw, _⊛_, given, ⋆, some, later, _$_, _∵_, !, qed, by, move, keep, drop, use1, use2, split, join, learn, pick, fsplit, fsplit3, fjoin, fjoin3, feqI, suffices, frame, await, done}
 use types.Part.{whole, sub, look-in, store-in}
 use types.Run.{look, init, forget, stop, hop, fld, from, load, lit, of-opd, bin, and-then, no-more, assigns, land, returns, enter, alloc1, alloc0, params1, pass1, pass0, free1, free0}
@@ -28,12 +28,12 @@ use types.SemTy.{Body}
 use sound.WpLaws.{FmC, fmOf, WpFn-mono}
 use denote.Exit.{yes}
 use denote.RattleType.{RattleType, owns}
-use denote.Laws.{Is, shows, Lawful, Typed}
+use denote.Laws.{Is, shows}
 use denote.Memory.{mem, cellAt}
 use denote.Plain.{uint-makes}
 use denote.Builtin.{u8, usize, RefMutOf, SliceRefOf}
 use denote.Ref.{RefT, NamedLft, MutRef, now, ptr-vals, mut-tells}
-use denote.Signature.{Signature, Slot, plain, namedLft}
+use denote.Signature.{Slot, plain, namedLft}
 use denote.Slice.{sliceTy, sliceVal, ShrSlice}
 use denote.Steps.{opens, closes, owned, peeks, heard, nothing}
 use denote.Struct.Declared.{Declared}
