@@ -1,7 +1,17 @@
 # Proves, tests and measures the repository; `make help` lists the targets.
 # What takes more than one command is a script in tools/, run from here.
 
+# All targets work in target/, so one waits for the other whatever -j says.
+.NOTPARALLEL:
 .PHONY: help test report bench fuzz lib fmt clean
+
+# What a user gives goes to the scripts as it stands, through the environment: make would take a $ in it for its own, the
+# shell a quote. The names are others, since a shell may have a SECONDS of its own.
+unexport FILE SECONDS SEED STEP
+export GIVEN_FILE := $(value FILE)
+export GIVEN_SECONDS := $(value SECONDS)
+export GIVEN_SEED := $(value SEED)
+export GIVEN_STEP := $(value STEP)
 
 help:
 	@echo 'make test              prove every crate and run every test; the last line is the count'
@@ -17,16 +27,18 @@ test:
 	@sh tools/gate
 
 report:
-	@sh tools/report "$$FILE"
+	@exec sh tools/report "$$GIVEN_FILE"
 
 bench:
 	@sh tools/bench
 
-fuzz: lib
-	@sh tools/fuzz longer '$(SECONDS)' '$(SEED)' '$(STEP)'
+fuzz:
+	@sh tools/fuzz check "$$GIVEN_SECONDS" "$$GIVEN_SEED" "$$GIVEN_STEP"
+	@exec sh tools/build lib
+	@sh tools/fuzz longer "$$GIVEN_SECONDS" "$$GIVEN_SEED" "$$GIVEN_STEP"
 
 lib:
-	@rt staticlib ardenquill
+	@sh tools/build lib && echo 'target/staticlib/libardenquill.a is proved and up to date'
 
 fmt:
 	@rt fmt
