@@ -38,7 +38,8 @@ fuzz:
 	@sh tools/fuzz longer "$$GIVEN_SECONDS" "$$GIVEN_SEED" "$$GIVEN_STEP"
 
 lib:
-	@sh tools/build lib && echo 'target/staticlib/libardenquill.a is proved and up to date'
+	@exec sh tools/build lib
+	@echo 'target/staticlib/libardenquill.a is proved and up to date'
 
 fmt:
 	@rt fmt
