@@ -54,10 +54,12 @@
 --   coded a, flat a          the answer a of a tick, and of a deadline run, as C has it (Flat)
 --   Told, tick-told, run-told
 --                            what C is told of them
+--   tick-stores              and what C's tick asks before it stores a state
 --   reads-back, writes-packed, packed-is-itself
 --                            "Reading a written chain file gives the chain back; writing a chain that was read gives the packed file"
 use mathlib.Core.Path.{_≡_, refl, sym, ap, subst, _∙_}
-use mathlib.Core.Logic.{_↔_, _≢_, _⊎_, inl, inr, ⊎-elim, Iff·trans, Iff·and, Iff·rfl}
+use mathlib.Core.Bool.{true}
+use mathlib.Core.Logic.{_↔_, _≢_, _⊎_, inl, inr, ⊎-elim, Iff·symm, Iff·trans, Iff·and, Iff·rfl}
 use mathlib.Core.List.{List, [], _∷_, _++_}
 use Prim.Native.Nat.{ℕ, zero, suc, _+_, _-_, _*_, _/_, _≤_, _<_, _∣_}
 use native.Mathlib.Nat.{sub-zero}
@@ -82,7 +84,7 @@ use Rattle.ardenquill.specs.Ticks.{kindOf, tickOf, atOf, outcomeOf, tickAnswer,
 use Rattle.ardenquill.specs.Ticks.{tick-9, deadline-run-accepts, TickOnce, once-counts, once-keeps, Spills, Lacks, OneTick, one-overflows, one-lacks}
 use Rattle.ardenquill.specs.Ticks.{one-cleans, one-stays, one-leaves, TicksTo, answer-one, answer-exactly, Ends, HowMany, total, Waits}
 use Rattle.ardenquill.specs.Ticks.{Rising, trace, entriesOf, FiredAt, source-entries, entries-when, entries-apart, entries-first, entries-rise}
-use Rattle.ardenquill.specs.Flat.{coded, flat}
+use Rattle.ardenquill.specs.Flat.{coded, isClean, flat, clean-exactly}
 use Rattle.ardenquill.specs.Records.{Chain, ChainAnswer, LengthAnswer, Analysis, Run, Outcome, Clean, Ticked, TickAnswer}
 use Rattle.promises.specs.Order.{LowestOf, said}
 use Rattle.promises.specs.Replay.{pOf, τOf, cOf, Spent, Accepts, line, rateX, rateY, replayAnswer, Fires, AllSlots, Passes, Ample, Low, NearestFirst, Runs, accepts-is, fires-is}
@@ -508,6 +510,11 @@ tick-told c s = told (tickAnswer c s) (λ n. tick-stays c s n .0)
 -- and of a run, with the state that it leaves
 pub run-told : (c : Chain) (T : ℕ) → let r = flat (deadlineRunAnswer c T) in Told (deadlineRunAnswer c T) (r .number) (r .place) (r .kind) (r .tick) (r .at) × (r .run ≡ deadlineRunAnswer c T .run)
 run-told c T = (told (deadlineRunAnswer c T) (λ n. deadline-run-empty c T n .0), refl)
+
+-- what C's tick asks of its answer before it stores a state: true exactly of a tick that is not refused and ends clean. Of any other the state is the one handed in
+-- (tick-stays, tick-ends), so that there is nothing to store
+pub tick-stores : (c : Chain) (s : Run) → (isClean (coded (tickAnswer c s)) ≡ true) ↔ ((tickAnswer c s .number ≡ 0) × Cleanly (tickAnswer c s .outcome))
+tick-stores c s = Iff·trans (clean-exactly (tickAnswer c s)) (Iff·and Iff·rfl (Iff·symm (cleanly-is (tickAnswer c s .outcome))))
 
 -- "Reading a written chain file gives the chain back": a chain c that is written into lent bytes o, which become p; slots past n, of which the file has
 -- nothing, are zero in the chain that is read
