@@ -42,7 +42,8 @@ extern "C" {
 /* The most queues that a chain has, and so the slots of a chain. */
 #define ARDENQUILL_MAX_QUEUES 16
 
-/* The shortest and the longest chain file in bytes; the shortest is the file's header alone. */
+/* The fewest and the most bytes that a file may have and not be refused with 1. The fewest are a header without tables,
+ * which is refused with 2 or 3; the shortest file that is read has ARDENQUILL_PACKED_LENGTH(1) bytes. */
 #define ARDENQUILL_MIN_FILE_LENGTH 20
 #define ARDENQUILL_MAX_FILE_LENGTH 4096
 
