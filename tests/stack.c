@@ -25,6 +25,7 @@ static uint8_t file[ARDENQUILL_MAX_FILE_LENGTH], out[ARDENQUILL_MAX_REPORT_LENGT
 static size_t length;
 static uint32_t number;
 
+/* Each call as a function that takes and gives nothing, which is what a context can begin with. */
 static void make_read(void) { number = ardenquill_read(file, length).number; }
 static void make_write(void) { number = ardenquill_write(chain, out, sizeof out).number; }
 static void make_factory(void) { number = ardenquill_factory(ARDENQUILL_FLUSH).number; }
