@@ -53,6 +53,17 @@ static uint32_t choose_threshold(struct ardenquill_chain trial)
     return chosen;
 }
 
+/* Writes bytes to a file, or says why it cannot. Whether it could. */
+static int keep(const char *path, const uint8_t *bytes, size_t length)
+{
+    FILE *file = fopen(path, "wb");
+    if (file == NULL || fwrite(bytes, 1, length, file) != length || fclose(file) != 0) {
+        perror(path);
+        return 0;
+    }
+    return 1;
+}
+
 int main(int count, char **arguments)
 {
     if (count != 2 && count != 3) {
@@ -85,12 +96,5 @@ int main(int count, char **arguments)
     length = (size_t)written.length;
     if (!print_report(bytes, length))
         return 1;
-    if (count == 2)
-        return 0;
-    file = fopen(arguments[2], "wb");
-    if (file == NULL || fwrite(bytes, 1, length, file) != length || fclose(file) != 0) {
-        perror(arguments[2]);
-        return 1;
-    }
-    return 0;
+    return count == 2 || keep(arguments[2], bytes, length) ? 0 : 1;
 }

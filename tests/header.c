@@ -703,6 +703,16 @@ static void check_factory_refusals(void)
     check_chain_refused("factory 4294967295", ardenquill_factory(UINT32_MAX), ARDENQUILL_NO_FACTORY_CHAIN, UINT32_MAX);
 }
 
+/* Checks what the analysis says of chains that it accepts, beside the factory chains. */
+static void check_analyses(void)
+{
+    check_sizes("own capacities", chain_of(&roomy), roomy_sizes);
+    check_sizes("widest margins", chain_of(&widest), widest_sizes);
+    check_sizes("work in every tick", chain_of(&full), full_sizes);
+    check_sizes("largest y", chain_of(&largest_y), largest_y_sizes);
+    check_sizes("16 sizes", sixteen(), sixteen_sizes);
+}
+
 /* Checks each number that the analysis refuses with after those of the writer. */
 static void check_analysis_refusals(void)
 {
@@ -1256,11 +1266,7 @@ int main(int count, char **arguments)
     check_read_refusals();
     check_write_refusals();
     check_factory_refusals();
-    check_sizes("own capacities", chain_of(&roomy), roomy_sizes);
-    check_sizes("widest margins", chain_of(&widest), widest_sizes);
-    check_sizes("work in every tick", chain_of(&full), full_sizes);
-    check_sizes("largest y", chain_of(&largest_y), largest_y_sizes);
-    check_sizes("16 sizes", sixteen(), sixteen_sizes);
+    check_analyses();
     check_analysis_refusals();
     check_consume_limit();
     check_feed_report();
