@@ -16,7 +16,7 @@ export GIVEN_STEP := $(value STEP)
 help:
 	@echo 'make test              prove every crate and run every test; the last line is the count'
 	@echo 'make report FILE=PATH  print the report on the chain file PATH'
-	@echo 'make bench             time each call and count its instructions, against the plain Rust implementation'
+	@echo 'make bench             on x86-64: time each call and count its instructions, against the plain Rust implementation'
 	@echo 'make fuzz              try every C call on drawn inputs until interrupted; SECONDS= bounds it, SEED= and STEP=,'
 	@echo '                       which a failure prints, repeat it'
 	@echo 'make lib               prove the library and write target/staticlib/libardenquill.a'
