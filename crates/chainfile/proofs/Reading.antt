@@ -44,7 +44,7 @@ read-parts : (f : List ℕ) → readRefusal f ≡ orElse (headerRefusal f) (rows
 unfolding readRefusal headerRefusal rowsRefusal
 read-parts f = first-append (take 3 (readChecks f)) (drop 3 (readChecks f))
 
--- the reader's two ways out: the header is refused, or the rows answer
+-- two of the reader's ways out: the header is refused, or the rows answer
 pub header-refused : (f : List ℕ) {h : Refusal} {a : ChainAnswer} → h ≡ headerRefusal f → (Silent h → ⊥) → a ≡ answered h emptyChain → a ≡ readAnswer f
 unfolding readAnswer
 header-refused f is n e = e ∙ refused-alike _ _ _ n ∙ ap (λ (r : Refusal). answered r (chainOf f)) (or-left _ is n ∙ sym (read-parts f))

@@ -2,7 +2,7 @@
 // place in the file into its slot of the record: one the header, one the queue table, one the node table.
 ghost use mathlib.Core.Path.{_≡_};
 ghost use mathlib.Core.Bool.{_&&_, cond};
-ghost use Prim.Native.Nat.{_+_, _<_};
+ghost use Prim.Native.Nat.{_+_, _≤_, _<_};
 ghost use lib.Dec.{eqb};
 ghost use Rattle.words.specs.Put.{Room};
 ghost use Rattle.chain.specs.Record.{rowOf, workOf, emptyChain, answered};
@@ -61,7 +61,7 @@ fn header_of(file: &[u8]) -> Header
 
 // 1, 2 and 3 of a file that has room for a header: what is wrong with it, before any row is looked at.
 fn header_check(file: &[u8], header: Header) -> Refusal
-    requires { ⌜ header ≡ headerOf (now file) ⌝ }
+    requires { ⌜ (header ≡ headerOf (now file)) × Room (now file) 0 20 ⌝ }
     ensures { λ r. ⌜ r ≡ headerRefusal (now (file .entry)) ⌝ }
 {
     let length = file.len();
@@ -76,13 +76,11 @@ fn header_check(file: &[u8], header: Header) -> Refusal
     offset_check(length, header.n, header.queues, header.nodes)
 }
 
-// Whether the length is out of range, or is not what the total word says.
+// Whether the length, which is enough for a header, is out of range, or is not what the total word says.
 fn is_wrong_length(length: usize, total: u32) -> bool
+    requires { ⌜ 20 ≤ length ⌝ }
     ensures { λ r. ⌜ r ≡ wrongLength length total ⌝ }
 {
-    if length < 20 {
-        return true;
-    }
     4096 < length || total as usize != length
 }
 

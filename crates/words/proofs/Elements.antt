@@ -1,4 +1,4 @@
--- An element of an array, as a part of the cell that the array lies in: what `Types/Part.antt`'s `sub` is to a field.
+-- An element of an array, as a part of the cell that the array lies in: what `types.Part`'s `sub` is to a field.
 --     place o s k      where element k begins in an array from o on whose elements have s bytes
 --     place-is         it is k * s + o
 --     taken-out        the cell of one element, out of the row of all, and back with any value

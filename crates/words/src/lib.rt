@@ -88,7 +88,7 @@ pub fn put_row(out: &mut [u8], at: usize, q: Queue) -> usize
     put_word(out, d, q.reserved)
 }
 
-// The five words of a queue row, where they are.
+// The five words of a queue row, all of which are there.
 fn row(bytes: &[u8], at: usize) -> Queue
     requires { ⌜ Room (now bytes) at 20 ⌝ }
     ensures { λ r. ⌜ r ≡ rowAt (now (bytes .entry)) at ⌝ }
@@ -102,7 +102,7 @@ fn row(bytes: &[u8], at: usize) -> Queue
     }
 }
 
-// The word that four bytes make, where they are: no other function reads a byte of a file.
+// The word that four bytes make, all of which are there: no other function reads a byte of a file.
 fn word(bytes: &[u8], at: usize) -> u32
     requires { ⌜ Room (now bytes) at 4 ⌝ }
     ensures { λ r. ⌜ r ≡ wordAt (now (bytes .entry)) at ⌝ }

@@ -7,7 +7,7 @@ use Rattle.chainfile.proofs.reader.header_check.Statement.{statement}
 use Rattle.chainfile.proofs.reader.header_check.Tie as tie
 
 is-wrong-length-requires : tie.Need-is-wrong-length-requires
-is-wrong-length-requires c κs = search needs
+is-wrong-length-requires c κs = c .before .pre .1 .fits
 
 test-requires : tie.Need-test-requires
 test-requires c κs = search needs
@@ -16,7 +16,7 @@ returns : tie.Need-returns
 unfolding headerRefusal first
 returns c =
     let t = c .before .before in
-    or-left _ (length-first _ (t .before .before .before .pre) (t .before .is-wrong-length .ensures) (t .test .ensures)) (c .if1 .taken)
+    or-left _ (length-first _ (t .before .before .before .pre .0) (t .before .is-wrong-length .ensures) (t .test .ensures)) (c .if1 .taken)
 
 count-check-requires : tie.Need-count-check-requires
 count-check-requires c κs = search needs
@@ -26,7 +26,7 @@ unfolding headerRefusal first
 returns-2 c =
     let c1 = c .before .before .before in
     let t = c1 .before .before in
-    let header = t .before .before .before .pre in
+    let header = t .before .before .before .pre .0 in
     or-right (length-first _ header (t .before .is-wrong-length .ensures) (t .test .ensures)) (c1 .if1 .left) (or-left _ (count-next _ header (c .before .before .count-check .ensures)) (c .if2 .taken))
 
 offset-check-requires : tie.Need-offset-check-requires
@@ -38,7 +38,7 @@ returns-3 c =
     let c2 = c .before in
     let c1 = c2 .before .before .before in
     let t = c1 .before .before in
-    let header = t .before .before .before .pre in
+    let header = t .before .before .before .pre .0 in
     or-right (length-first _ header (t .before .is-wrong-length .ensures) (t .test .ensures)) (c1 .if1 .left)
     (or-right (count-next _ header (c2 .before .before .count-check .ensures)) (c2 .if2 .left) (offset-last _ header (c .offset-check .ensures)))
 

@@ -19,7 +19,7 @@ header-of-requires : tie.Need-header-of-requires
 header-of-requires c κs = record { fits = omega (arith, c .if1 .left) }
 
 header-check-requires : tie.Need-header-check-requires
-header-check-requires c κs = c .header-of .ensures
+header-check-requires c κs = (c .header-of .ensures, record { fits = omega (arith, c .before .if1 .left) })
 
 answer-requires-2 : tie.Need-answer-requires-2
 answer-requires-2 c κs = search needs
