@@ -3,8 +3,8 @@
 pub use Rattle.arith.specs.Division.{ceil, ceil-above, ceil-least, ceil-unique}
 pub use Rattle.arith.specs.Gcd.{gcd, gcd-dvd-left, gcd-dvd-right, gcd-greatest, gcd-unique, gcd-pos-left}
 pub use Rattle.onequeue.specs.Residue.{residue, Largest, residue-largest, largest-unique, residue-000, residue-004, residue-floor, residue-rest}
-pub use Rattle.onequeue.specs.Minimum.{minimum, minimum-is, minimum-produce, minimum-threshold, minimum-bound, Reaches, naming-reaches, naming-is, naming-pos, naming-fits}
-unfoldable pub use Rattle.onequeue.specs.Minimum.{naming}
+pub use Rattle.onequeue.specs.Least.{Reaches, reaches, IsLeast, least-is, minimum-produce, minimum-threshold, minimum-bound, naming-pos, naming-fits}
+unfoldable pub use Rattle.onequeue.specs.Least.{least}
 pub use Rattle.onequeue.specs.Capacity.{capacity, capacity-written, capacity-minimum, margin, margin-over, margin-under, margin-balance, margin-zero, margin-negative, short-is}
 unfoldable pub use Rattle.rates.specs.Rates.{common, nextX, nextY, stretch}
 unfoldable pub use Rattle.sizing.specs.Nodes.{xOf, yOf}
@@ -12,7 +12,7 @@ pub use Rattle.sizing.specs.Nodes.{stretchOf, source-rate, x-pos, y-pos, y-stre
 unfoldable pub use Rattle.sizing.specs.Load.{busyIn}
 pub use Rattle.sizing.specs.Load.{busyOf, cycleOf, parts-exact, busy-next}
 pub use Rattle.rates.specs.Load.{capped, capped-above}
-pub use Rattle.sizing.specs.Sizes.{start, minimumOf, namingOf, capacityOf, marginOf, margin-unwritten, margin-written, sizeOf, noSize, emptyAnalysis, refusedWith, size-at}
+pub use Rattle.sizing.specs.Sizes.{start, leastOf, minimumOf, namingOf, capacityOf, marginOf, margin-unwritten, margin-written, sizeOf, noSize, emptyAnalysis, refusedWith, size-at}
 unfoldable pub use Rattle.sizing.specs.Sizes.{sizeBy, analysisOf, sized}
 unfoldable pub use Rattle.sizing.specs.Checks.{analyseRefusal, analyseAnswer, runRefusal, runAnswer}
 pub use Rattle.sizing.specs.Checks.{limit, limit-word, tooLarge, rateTest, rateCheck, loadCheck, capacityTest, capacityCheck}

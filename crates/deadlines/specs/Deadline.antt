@@ -22,7 +22,7 @@ use borrow.Author.Tests.{le-leb, lt-leb}
 use Rattle.arith.specs.Division.{floor-mono, floor-shift}
 use Rattle.words.specs.declared.Queue.{Queue}
 use Rattle.onequeue.specs.Capacity.{capacity}
-use Rattle.onequeue.specs.Minimum.{minimum}
+use Rattle.onequeue.specs.Least.{least}
 use Rattle.chain.specs.Tests.{below-true, below-false, sum-iff}
 use Rattle.chain.specs.Refusals.{refused, test, orElse, Silent, or-says, or-silents, test-exact, test-silent, Only, only-test, only-or}
 use Rattle.chain.specs.Record.{rowOf}
@@ -34,7 +34,7 @@ use Rattle.sizing.specs.Checks.{limit}
 -- "index ((k−1)×c+B)/p rounded down, plus 1"; B is the capacity in force; k is at least 1, of the firing asked by 11, of a next firing by `next`, and of
 -- each further index by earlier-some, so the minus is exact
 unfoldable pub earlier : Queue → ℕ → ℕ
-unfolding capacity minimum
+unfolding capacity least
 earlier q k = ((k - 1) * q .consume + capacityOf q) / q .produce + 1
 
 -- "(k−1)×y for N_0, else N_(i−1)'s deadline for index .."

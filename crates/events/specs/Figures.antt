@@ -9,7 +9,7 @@ use mathlib.Core.Path.{_≡_, refl, subst}
 use mathlib.Core.List.{List, [], _∷_, _++_}
 use Prim.Native.Nat.{ℕ, _+_, _-_, _<_}
 use native.Mathlib.Omega.{arith}
-use Rattle.onequeue.specs.Minimum.{minimum}
+use Rattle.onequeue.specs.Least.{least}
 use Rattle.events.specs.Events.{Event, put, take, puts, contents, Allowed, Settled, Holds}
 
 -- P5's run with k = 4
@@ -27,8 +27,8 @@ unfolding Settled
 feed-settled = (omega arith, (omega arith, (omega arith, (omega arith, tt))))
 
 -- before its last two takes the queue holds its minimum
-pub feed-top : contents 4 3 0 (put ∷ put ∷ take ∷ put ∷ take ∷ put ∷ []) ≡ minimum 0 4 7 3
-unfolding contents minimum
+pub feed-top : contents 4 3 0 (put ∷ put ∷ take ∷ put ∷ take ∷ put ∷ []) ≡ least 0 4 7 3 .minimum
+unfolding contents least
 feed-top = refl
 
 -- its events up to the third put

@@ -11,7 +11,7 @@ use Rattle.arith.specs.Division.{ceil, ceil-above, rest-of-sum, same-rest-gap}
 use Rattle.arith.specs.Gcd.{gcd, gcd-pos-left}
 use Rattle.arith.specs.Bezout.{Meets, window}
 use Rattle.onequeue.specs.Residue.{residue, residue-largest}
-use Rattle.onequeue.specs.Minimum.{minimum, naming}
+use Rattle.onequeue.specs.Least.{least}
 use Rattle.events.specs.Events.{Event, put, take, puts, takes, contents, contents-after, Allowed, balance, owed, Holds}
 use Rattle.events.specs.Peak.{allowed-before}
 
@@ -74,9 +74,9 @@ shown s p τ c r j es ct hr far same al more =
     }
 
 -- after the naming count of puts the queue has held its minimum
-pub naming-law : (s p τ c : ℕ) (es : List Event) → 0 < p → 0 < c → c ≤ τ → s < τ → Allowed p τ c s es → naming s p τ c ≤ puts es
-    → Holds p c s es (minimum s p τ c)
-unfolding naming minimum residue
+pub naming-law : (s p τ c : ℕ) (es : List Event) → 0 < p → 0 < c → c ≤ τ → s < τ → Allowed p τ c s es → least s p τ c .by ≤ puts es
+    → Holds p c s es (least s p τ c .minimum)
+unfolding least residue
 naming-law s p τ c es hp hc ct hs al enough =
     let g : ℕ = gcd p c in
     let k : ℕ = ceil (τ - s) g - 1 in

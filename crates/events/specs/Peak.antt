@@ -13,7 +13,7 @@ use native.Mathlib.Omega.{arith}
 use Rattle.arith.specs.Division.{rest-of-sum}
 use Rattle.arith.specs.Gcd.{gcd, gcd-pos-left, gcd-mul-left, gcd-mul-right}
 use Rattle.onequeue.specs.Residue.{residue-largest}
-use Rattle.onequeue.specs.Minimum.{minimum, minimum-threshold}
+use Rattle.onequeue.specs.Least.{least, minimum-threshold}
 use Rattle.events.specs.Events.{Event, put, take, contents, Allowed, Settled, Holds}
 
 -- by the balance, what is held has the remainder of s on division by a common divisor g of p and c
@@ -23,15 +23,15 @@ rest-held s p c g u w N M x ep ec bal =
     ∙ rest-of-sum (x + c * M) s g (u * N) (sym bal ∙ rw (← ep) (omega arith))
 
 -- a queue below τ has room for one production within its minimum
-pub room : (s p τ c N M x : ℕ) → 0 < p → s < τ → s + p * N ≡ x + c * M → x < τ → x + p ≤ minimum s p τ c
-unfolding minimum
+pub room : (s p τ c N M x : ℕ) → 0 < p → s < τ → s + p * N ≡ x + c * M → x < τ → x + p ≤ least s p τ c .minimum
+unfolding least
 room s p τ c N M x hp hs bal low =
     let same : x % gcd p c ≡ s % gcd p c = rest-held s p c (gcd p c) (p / gcd p c) (c / gcd p c) N M x (gcd-mul-left p c) (gcd-mul-right p c) bal in
     omega (arith, residue-largest s τ (gcd p c) hs (gcd-pos-left p c hp) .top x low same)
 
 -- from contents x, after N productions and M consumptions
-peak-from : (s p τ c N M x : ℕ) (es : List Event) → 0 < p → c ≤ τ → s < τ → s + p * N ≡ x + c * M → x ≤ minimum s p τ c
-    → Allowed p τ c x es → Settled p τ c x es → contents p c x es ≤ minimum s p τ c
+peak-from : (s p τ c N M x : ℕ) (es : List Event) → 0 < p → c ≤ τ → s < τ → s + p * N ≡ x + c * M → x ≤ least s p τ c .minimum
+    → Allowed p τ c x es → Settled p τ c x es → contents p c x es ≤ least s p τ c .minimum
 unfolding contents Allowed Settled
 peak-from s p τ c N M x [] hp ct hs bal most al st = most
 peak-from s p τ c N M x (put ∷ es) hp ct hs bal most al st =
@@ -41,7 +41,7 @@ peak-from s p τ c N M x (take ∷ es) hp ct hs bal most al st =
 
 -- from what the queue starts with on: where each take finds τ and no put does, the minimum is not passed
 pub peak-law : (s p τ c : ℕ) (es : List Event) → 0 < p → c ≤ τ → s < τ → Allowed p τ c s es → Settled p τ c s es
-    → contents p c s es ≤ minimum s p τ c
+    → contents p c s es ≤ least s p τ c .minimum
 peak-law s p τ c es hp ct hs = peak-from s p τ c 0 0 s es hp ct hs (omega arith) (omega (arith, minimum-threshold s p τ c hs hp))
 
 -- the first events of an allowed list are one
@@ -60,7 +60,7 @@ settled-before p τ c x (take ∷ before) after st = settled-before p τ c (x - 
 
 -- so at no moment the minimum is passed
 pub peak-always : (s p τ c b : ℕ) (es : List Event) → 0 < p → c ≤ τ → s < τ → Allowed p τ c s es → Settled p τ c s es
-    → Holds p c s es b → b ≤ minimum s p τ c
+    → Holds p c s es b → b ≤ least s p τ c .minimum
 peak-always s p τ c b es hp ct hs al st h =
     le-trans (h .holds)
     (peak-law s p τ c (h .before) hp ct hs

@@ -11,7 +11,7 @@ use native.Mathlib.Omega.{arith}
 use Rattle.chain.specs.Record.{rowOf}
 use Rattle.chain.specs.Factory.{factoryAnswer}
 use Rattle.chain.specs.declared.Chain.{Chain}
-use Rattle.onequeue.specs.Minimum.{minimum}
+use Rattle.onequeue.specs.Least.{least}
 use Rattle.sizing.specs.Sizes.{minimumOf}
 use Rattle.state.specs.State.{heldAt, freshRun}
 use Rattle.state.specs.Fired.{fired}
@@ -32,7 +32,7 @@ feed-first = 0 ∷ 0 ∷ 1 ∷ 0 ∷ 1 ∷ 0 ∷ []
 
 -- after them the queue holds 10, which is its minimum
 pub feed-top : (heldAt (after feed (freshRun feed) feed-first) 0 ≡ 10) × (minimumOf (rowOf feed 0) ≡ 10)
-unfolding factoryAnswer freshRun fired after minimum
+unfolding factoryAnswer freshRun fired after least
 feed-top = (refl, refl)
 
 -- manual firing accepts each firing of the run

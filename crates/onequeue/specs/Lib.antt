@@ -1,5 +1,5 @@
 pub mod Residue
-pub mod Minimum
+pub mod Least
 pub mod Known
 pub mod Capacity
 pub mod Figures

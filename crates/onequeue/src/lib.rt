@@ -1,7 +1,7 @@
-// What one queue needs: the minimum and the naming count of its numbers, the capacity in force and the margin.
+// What one queue needs: the minimum with the naming count of its numbers, the capacity in force and the margin.
 // The divisions that the rates make too, gcd and share, come with the numbers, so that each is done once.
 ghost use mathlib.Core.Path.{_≡_};
-ghost use Rattle.onequeue.specs.Minimum.{minimum, naming};
+ghost use Rattle.onequeue.specs.Least.{least};
 ghost use Rattle.onequeue.specs.Known.{Known};
 ghost use Rattle.onequeue.specs.Capacity.{capacity, margin, Within};
 
@@ -14,21 +14,24 @@ pub struct Row {
     pub share: u32,
 }
 
-// The minimum b: the largest multiple of g below the threshold, plus the produce.
-pub fn minimum(q: Row) -> u32
-    requires { ⌜ Known q ⌝ }
-    ensures { λ r. ⌜ r ≡ minimum 0 (q .produce) (q .threshold) (q .consume) ⌝ }
-{
-    let last = q.threshold - 1;
-    last - last % q.g + q.produce
+// A queue's minimum, and its naming count: the queue has held the minimum by the time that its producer has fired so often.
+pub struct Shown {
+    pub minimum: u32,
+    pub by: u32,
 }
 
-// The naming count: so many firings of the producer show the minimum.
-pub fn naming(q: Row) -> u32
+// The minimum b, the largest multiple of g below the threshold plus the produce, with the naming count.
+pub fn least(q: Row) -> Shown
     requires { ⌜ Known q ⌝ }
-    ensures { λ r. ⌜ r ≡ naming 0 (q .produce) (q .threshold) (q .consume) ⌝ }
+    ensures { λ r. ⌜ r ≡ least 0 (q .produce) (q .threshold) (q .consume) ⌝ }
 {
-    (q.threshold - q.consume + (q.produce - 1)) / q.produce + q.share
+    let last = q.threshold - 1;
+    let minimum = last - last % q.g + q.produce;
+    let by = (q.threshold - q.consume + (q.produce - 1)) / q.produce + q.share;
+    Shown {
+        minimum: minimum,
+        by: by,
+    }
 }
 
 // The capacity in force: the word as written, or the minimum where that is 0.

@@ -69,7 +69,7 @@ use lib.ListN.{length, getD, take, drop, replicate}
 use borrow.Author.Tests.{le-leb}
 use Rattle.ardenquill.specs.Chains.{Silents, tab, rowOf, workOf, trimmed}
 use Rattle.ardenquill.specs.Files.{countOf, queuesAt, nodesAt, readAnswer, packedLength, packed, writeRefusal, Output, Bytes, packedFile, read-of-write, write-of-read, packed-again}
-use Rattle.ardenquill.specs.Analyses.{ceil, gcd, gcd-pos-left, residue, residue-000, residue-004, naming, common}
+use Rattle.ardenquill.specs.Analyses.{ceil, gcd, gcd-pos-left, residue-000, residue-004, least, common}
 use Rattle.ardenquill.specs.Analyses.{nextX, nextY, xOf, yOf, y-multiple, busyIn, runChecks, analysisOf, analyseAnswer}
 use Rattle.ardenquill.specs.Analyses.{Accepted, capacity-minimum, capacity-written, margin-unwritten, margin-balance}
 use Rattle.ardenquill.specs.Runs as runs
@@ -88,7 +88,7 @@ use Rattle.ardenquill.specs.Flat.{coded, isClean, flat, clean-exactly}
 use Rattle.ardenquill.specs.Records.{Chain, ChainAnswer, LengthAnswer, Analysis, Run, Outcome, Clean, Ticked, TickAnswer}
 use Rattle.promises.specs.Order.{LowestOf, said}
 use Rattle.promises.specs.Replay.{pOf, τOf, cOf, Spent, Accepts, line, rateX, rateY, replayAnswer, Fires, AllSlots, Passes, Ample, Low, NearestFirst, Runs, accepts-is, fires-is}
-use Rattle.promises.specs.Laws.{report-is, x-is, y-is, by-is, capacity-is, rate-x-is, rate-y-is, last, minimum-by, minimum-as, largest-multiple}
+use Rattle.promises.specs.Laws.{report-is, x-is, y-is, by-is, capacity-is, rate-x-is, rate-y-is, least-own, minimum-as, largest-multiple}
 use Rattle.promises.specs.Laws.{may-run-is, run-quiet, silents-append, whole, passes-is, index-down, taken, state-is, moment, parts, sound}
 use Rattle.promises.specs.Laws.{ends-in, keeps, minimum-is, margin-is, coded-overflowed, coded-undated, coded-clean, one-firing, over-is}
 use Rattle.promises.specs.ByTicks.{DeadlineRuns, ticksFrom, ticks-are-run}
@@ -135,8 +135,9 @@ module _ (c : Chain) (ok : Accepts c) where
     -- "smallest capacities .. equal the published Processing Graph Method rules as document 01 condenses them" (000, Lemma 1)
     pub smallest : Smallest (pOf c j) (τOf c j) (cOf c j) (line c j .minimum)
     smallest =
-        let m = largest-multiple _ _ _ (last c known j l) in
-        record { multiple = residue 0 (τOf c j) (gcd (pOf c j) (cOf c j)); is = minimum-by c known j l; divides = m .0; below = last c known j l .below; largest = m .1 }
+        let own = least-own c known j l in
+        let m = largest-multiple _ _ _ (own .largest) in
+        record { multiple = own .left; is = minimum-is c known j l ∙ own .minimum; divides = m .0; below = own .largest .below; largest = m .1 }
 
     -- 01's "000 and 004 write the residue below threshold differently, but the values agree": b as 000 writes it, and as 004 does where g divides τ and where not
     pub papers-agree : let g = gcd (pOf c j) (cOf c j) in
@@ -149,7 +150,7 @@ module _ (c : Chain) (ok : Accepts c) where
 
     -- 01's "naming count of demand 3: (τ−c)/p rounded up, plus c/g"
     pub naming-count : line c j .by ≡ ceil (τOf c j - cOf c j) (pOf c j) + cOf c j / gcd (pOf c j) (cOf c j)
-    unfolding naming
+    unfolding least
     naming-count = by-is c known j l ∙ rw sub-zero
 
     -- 01's "with B=0 the capacity is b and the margin 0"

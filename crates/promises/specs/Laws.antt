@@ -3,8 +3,8 @@
 --                            the line of a queue by 01's formulas, and its parts
 --   rate-x-is, rate-y-is     a node's reported rate
 --   report-is                the analysis that is answered
---   last, minimum-by, minimum-as, largest-multiple
---                            the residue of a queue, its minimum by it and by what else it is, and that it is a largest multiple
+--   least-own, minimum-as, largest-multiple
+--                            minimum and naming count of a queue in words, its minimum by its residue, and that this is a largest multiple
 --   may-run-is, run-quiet    two ways to say of a chain that it may run; and then none of the checks of a run speaks
 --   silents-append, -parts, -last
 --                            nor of two lists of checks in a row where none of either does, and only there; of a list with one check behind it
@@ -33,9 +33,8 @@ use lib.ListN.{length, getD}
 use borrow.Author.Tests.{lt-leb}
 use Rattle.ardenquill.specs.Chains.{row, rowOf, first, Silent, Silents, first-silent, Sound}
 use Rattle.ardenquill.specs.Files.{bytesOf, packedLength, header, rows, nodes, packed, roomCheck, writeRefusal, Output}
-use Rattle.ardenquill.specs.Analyses as sizes
-use Rattle.ardenquill.specs.Analyses.{gcd, gcd-pos-left, residue, Largest, residue-largest, xOf, yOf, source-rate}
-use Rattle.ardenquill.specs.Analyses.{minimumOf, namingOf, capacityOf, marginOf, sizeBy, sizeOf, noSize, size-at, analysisOf}
+use Rattle.ardenquill.specs.Analyses.{gcd, gcd-pos-left, residue, Largest, residue-largest, largest-unique, IsLeast, least-is, xOf, yOf, source-rate}
+use Rattle.ardenquill.specs.Analyses.{leastOf, minimumOf, namingOf, capacityOf, marginOf, sizeBy, sizeOf, noSize, size-at, analysisOf}
 use Rattle.ardenquill.specs.Analyses.{analyseAnswer, Accepted, analysed, Enough, runChecks, runRefusal, run-accepts}
 use Rattle.ardenquill.specs.Runs.{heldAt, freshRun, answered, fired, StateSound, Whole, Firing, firing-is, held-input, over-enough, AlikeChains, flat-alike, record-alike, Over, Steady}
 use Rattle.ardenquill.specs.Histories.{after, Permitted, Prompt, EachFiring, each-before}
@@ -81,17 +80,15 @@ module _ (c : Chain) (a : Accepted c) where
     unfolding sizeBy
     margin-is = ap (λ (q : QueueSize). q .margin) line-is
 
-    -- the residue of the queue
-    pub last : Largest 0 (τOf c j) (gcd (pOf c j) (cOf c j)) (residue 0 (τOf c j) (gcd (pOf c j) (cOf c j)))
-    last = residue-largest 0 _ _ (a .chain .rows j l .threshold .0) (gcd-pos-left _ _ (a .chain .rows j l .produce .0))
+    -- its minimum and its naming count, in words
+    pub least-own : IsLeast 0 (pOf c j) (τOf c j) (cOf c j) (leastOf (rowOf c j))
+    least-own = least-is 0 _ _ _ (a .chain .rows j l .threshold .0) (a .chain .rows j l .produce .0) _ .1 refl
 
-    -- its minimum by it
-    pub minimum-by : line c j .minimum ≡ residue 0 (τOf c j) (gcd (pOf c j) (cOf c j)) + pOf c j
-    minimum-by = minimum-is ∙ sizes.minimum-is 0 _ _ _ _ (a .chain .rows j l .threshold .0) (a .chain .rows j l .produce .0) last
-
-    -- so by what else the residue is
+    -- its minimum by what the residue is
     pub minimum-as : {r : ℕ} → residue 0 (τOf c j) (gcd (pOf c j) (cOf c j)) ≡ r → line c j .minimum ≡ r + pOf c j
-    minimum-as e = minimum-by ∙ ap (λ (n : ℕ). n + pOf c j) e
+    minimum-as e =
+        let last = residue-largest 0 _ _ (a .chain .rows j l .threshold .0) (gcd-pos-left _ _ (a .chain .rows j l .produce .0)) in
+        minimum-is ∙ least-own .minimum ∙ ap (λ (n : ℕ). n + pOf c j) (largest-unique (least-own .largest) last ∙ e)
 
   -- the rate of a node
   pub rate-x-is : (i : ℕ) → i ≤ c .n → rateX c i ≡ xOf c i

@@ -22,12 +22,12 @@
 use mathlib.Core.Path.{_≡_, refl, sym, ap, subst, _∙_}
 use mathlib.Core.Logic.{_↔_, _≢_, _⊎_, inl, inr, ⊎-elim, by-cases, Iff·trans, Iff·symm, Iff·rfl}
 use mathlib.Core.List.{[], _∷_}
-use Prim.Native.Nat.{ℕ, zero, suc, _+_, _-_, _*_, _/_, _≤_, _<_, _∣_}
+use Prim.Native.Nat.{ℕ, zero, suc, _+_, _*_, _/_, _≤_, _<_, _∣_}
 use native.Mathlib.Nat.{mul-div-cancel-left, mul-div-cancel', dvd-mul-right-of-dvd, dvd-antisymm, pos-of-dvd-of-pos}
 use native.Mathlib.Decide.{decLe}
 use native.Mathlib.Omega.{arith}
 use Rattle.ardenquill.specs.Chains.{workOf, Silents, chainChecks, Sound, sound-is}
-use Rattle.ardenquill.specs.Analyses.{gcd, gcd-dvd-left, gcd-dvd-right, gcd-greatest, ceil, naming, naming-reaches, common, nextX, nextY, xOf}
+use Rattle.ardenquill.specs.Analyses.{gcd, gcd-dvd-left, gcd-dvd-right, gcd-greatest, common, nextX, nextY, xOf}
 use Rattle.ardenquill.specs.Analyses.{yOf, y-pos, busyIn, busyOf, cycleOf, parts-exact, InLimit, FirstTooLarge, rateCheck, sized, analysisOf}
 use Rattle.ardenquill.specs.Analyses.{analyseRefusal, analyseAnswer, analyse-6, analyse-7, runRefusal, runAnswer, run-earlier, rates-silent, Accepted}
 use Rattle.ardenquill.specs.Runs as runs
@@ -35,7 +35,7 @@ use Rattle.ardenquill.specs.Runs.{freshAnswer, fireRefusal, fireAnswer, fire-ea
 use Rattle.ardenquill.specs.Records.{Chain, Run}
 use Rattle.promises.specs.Order.{LowestOf, said}
 use Rattle.promises.specs.Replay.{pOf, τOf, cOf, Accepts, line, accepts-is}
-use Rattle.promises.specs.Laws.{report-is, x-is, y-is, by-is, silents-append, silents-parts}
+use Rattle.promises.specs.Laws.{report-is, x-is, y-is, by-is, least-own, silents-append, silents-parts}
 use Rattle.promises.specs.RecordInNumbers.{GoodRecord, good-is, RecordChecked, checked-as, analyse-record}
 
 -- 01's "gcd" in words: it divides both, and every number that does divides it
@@ -276,19 +276,17 @@ module _ (c : Chain) (ok : Accepts c) where
 
   -- "The naming count of demand 3": of queue j
   pub reported-naming : (j : ℕ) → j < c .n → NamingIs (pOf c j) (τOf c j) (cOf c j) (line c j .by)
-  unfolding naming
   reported-naming j l =
-      let p : ℕ = pOf c j in
-      let reaches = naming-reaches 0 p (τOf c j) (cOf c j) (accepted .chain .rows j l .produce .0) in
+      let own = least-own c accepted j l in
       record {
-        firings = ceil (τOf c j - cOf c j - 0) p;
-        share = cOf c j / gcd p (cOf c j);
-        divisor = gcd p (cOf c j);
-        greatest = gcd-is p (cOf c j);
-        parts = mul-div-cancel' _ (gcd-is p (cOf c j) .right);
-        enough = omega (arith, reaches .enough);
-        least = λ m h. reaches .least m (omega arith);
-        is = by-is c accepted j l;
+        firings = own .firings;
+        share = own .share;
+        divisor = gcd (pOf c j) (cOf c j);
+        greatest = gcd-is (pOf c j) (cOf c j);
+        parts = own .whole;
+        enough = omega (arith, own .near .enough);
+        least = λ m h. own .near .least m (omega arith);
+        is = by-is c accepted j l ∙ own .by;
       }
 
 -- "Manual firing, runs and deadline questions check the analysis first": each of its numbers they answer exactly where it does, with its place

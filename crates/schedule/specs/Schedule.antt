@@ -31,7 +31,7 @@ use Rattle.chain.specs.Record.{rowOf}
 use Rattle.chain.specs.Sound.{Sound}
 use Rattle.chain.specs.Factory.{factoryAnswer}
 use Rattle.chain.specs.declared.Chain.{Chain}
-use Rattle.onequeue.specs.Minimum.{minimum-threshold}
+use Rattle.onequeue.specs.Least.{minimum-threshold}
 use Rattle.events.specs.Counts.{fires, fires-reach, fires-settles}
 use Rattle.sizing.specs.Sizes.{start, minimumOf, capacityOf}
 use Rattle.sizing.specs.Checks.{limit, Enough, enough-capacity}

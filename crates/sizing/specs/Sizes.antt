@@ -1,10 +1,10 @@
 -- The analysis of a chain (01, Rates, load, minimum): its queues one by one, and its load.
 --   start q                  what a queue holds at a fresh start: nothing
---   minimumOf q, namingOf q  its minimum b, and its naming count
+--   leastOf q                its minimum b with its naming count; minimumOf q, namingOf q: each of the two
 --   capacityOf q, marginOf q the capacity in force, and how much that is above the minimum
 --   margin-unwritten, -written
 --                            the margin where the file says 0, and where it says a capacity
---   rowBy q, Parted, row-known
+--   rowBy q, Parted, row-known, least-parted
 --                            the numbers that the queue's code is handed
 --   sizeBy q x y             one queue's line of the analysis, its consumer having the rate x in y
 --   sizeOf c i               queue i's
@@ -36,9 +36,10 @@ use Rattle.chain.specs.declared.Refusal.{Refusal}
 use Rattle.chain.specs.declared.Chain.{Chain}
 use Rattle.arith.specs.Gcd.{gcd}
 use Rattle.onequeue.specs.Known.{Known}
-use Rattle.onequeue.specs.Minimum.{minimum, naming, minimum-fits, naming-fits}
+use Rattle.onequeue.specs.Least.{least, minimum-fits, naming-fits}
 use Rattle.onequeue.specs.Capacity.{capacity, margin, capacity-fits, capacity-written, margin-zero}
 use Rattle.onequeue.specs.declared.Row.{Row}
+use Rattle.onequeue.specs.declared.Shown.{Shown}
 use Rattle.sizing.specs.Nodes.{xOf, yOf}
 use Rattle.sizing.specs.Load.{busyIn, busyOf, cycleOf}
 use Rattle.sizing.specs.declared.QueueSize.{QueueSize}
@@ -49,12 +50,15 @@ use Rattle.sizing.specs.declared.AnalysisAnswer.{AnalysisAnswer}
 abbrev pub start : Queue → ℕ
 start q = 0
 
--- "minimum b of a queue", and "the naming count of demand 3"
+-- "minimum b of a queue" with "the naming count of demand 3", and each of the two
+abbrev pub leastOf : Queue → Shown
+leastOf q = least (start q) (q .produce) (q .threshold) (q .consume)
+
 abbrev pub minimumOf : Queue → ℕ
-minimumOf q = minimum (start q) (q .produce) (q .threshold) (q .consume)
+minimumOf q = leastOf q .minimum
 
 abbrev pub namingOf : Queue → ℕ
-namingOf q = naming (start q) (q .produce) (q .threshold) (q .consume)
+namingOf q = leastOf q .by
 
 -- "with B=0 the capacity is b", else B
 abbrev pub capacityOf : Queue → ℕ
@@ -84,9 +88,14 @@ pub record Parted (q : Queue) (row : Row) : Type 0 where
   pub sound : SoundRow q
   pub parts : row ≡ rowBy q
 
+-- so the pair of these numbers is the queue's
+pub least-parted : {q : Queue} {row : Row} → Parted q row → least 0 (row .produce) (row .threshold) (row .consume) ≡ leastOf q
+unfolding rowBy
+least-parted p = ap (λ (r : Row). least 0 (r .produce) (r .threshold) (r .consume)) (p .parts)
+
 -- one queue's line, with its consumer's rate
 unfoldable pub sizeBy : Queue → ℕ → ℕ → QueueSize
-unfolding minimum naming capacity margin
+unfolding least capacity margin
 sizeBy q x y = record { x = x; y = y; minimum = minimumOf q; by = namingOf q; capacity = capacityOf q; margin = marginOf q }
 
 -- queue i's consumer is N_(i+1)

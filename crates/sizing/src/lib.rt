@@ -232,11 +232,11 @@ fn room_of(q: Queue, row: Row) -> Room
     requires { ⌜ Parted q row ⌝ }
     ensures { λ r. ⌜ r ≡ roomBy q ⌝ }
 {
-    let minimum = onequeue::minimum(row);
-    let capacity = onequeue::capacity(q.capacity, minimum);
+    let least = onequeue::least(row);
+    let capacity = onequeue::capacity(q.capacity, least.minimum);
     Room {
         capacity: capacity,
-        short: capacity < minimum,
+        short: capacity < least.minimum,
     }
 }
 
@@ -287,14 +287,14 @@ fn size_of(q: Queue, row: Row, x: u32, y: u32) -> QueueSize
     requires { ⌜ Parted q row ⌝ }
     ensures { λ r. ⌜ r ≡ sizeBy q x y ⌝ }
 {
-    let minimum = onequeue::minimum(row);
-    let capacity = onequeue::capacity(q.capacity, minimum);
+    let least = onequeue::least(row);
+    let capacity = onequeue::capacity(q.capacity, least.minimum);
     QueueSize {
         x: x,
         y: y,
-        minimum: minimum,
-        by: onequeue::naming(row),
+        minimum: least.minimum,
+        by: least.by,
         capacity: capacity,
-        margin: onequeue::margin(capacity, minimum),
+        margin: onequeue::margin(capacity, least.minimum),
     }
 }

@@ -42,7 +42,7 @@ use Rattle.chain.specs.Record.{rowOf, workOf}
 use Rattle.chain.specs.declared.Refusal.{Refusal}
 use Rattle.chain.specs.declared.Chain.{Chain}
 use Rattle.onequeue.specs.Capacity.{capacity}
-use Rattle.onequeue.specs.Minimum.{minimum}
+use Rattle.onequeue.specs.Least.{least}
 use Rattle.chain.specs.Sound.{Sound, SoundRow}
 use Rattle.sizing.specs.Sizes.{start, capacityOf}
 use Rattle.sizing.specs.Checks.{limit}
@@ -54,7 +54,7 @@ use Rattle.state.specs.declared.Run.{Run}
 
 -- "breaks the balance (p × producer's count − c × consumer's count is not what is held), passes a capacity, or has work done of e or more"
 unfoldable pub broken : Queue → ℕ → ℕ → ℕ → ℕ → ℕ → Bool
-unfolding capacity minimum
+unfolding capacity least
 broken q e a b x d = not (eqb (start q + q .produce * a) (x + q .consume * b)) || ltb (capacityOf q) x || leb e d
 
 -- 17 of one queue, place the queue, "for work done the one feeding the node"
@@ -89,7 +89,7 @@ overCheck c s i = test 11 i (idle c s i)
 
 -- "a manual firing would pass a capacity"; N_i's output queue is queue i, and the sink has none
 unfoldable pub cramped : Chain → Run → ℕ → Bool
-unfolding capacity minimum
+unfolding capacity least
 cramped c s i = ltb i (c .n) && ltb (capacityOf (rowOf c i)) (heldAt s i + rowOf c i .produce)
 
 -- 12 of a manual firing, place the queue

@@ -10,60 +10,55 @@ use mir.Facts.{toZ-ofZ}
 use borrow.Author.Needs.{needs}
 use Rattle.words.specs.declared.Queue.{Queue}
 use Rattle.onequeue.specs.Known.{Known}
-use Rattle.onequeue.specs.Minimum.{minimum, naming}
+use Rattle.onequeue.specs.Least.{least}
 use Rattle.onequeue.specs.Capacity.{capacity, margin, Within}
 use Rattle.onequeue.specs.declared.Row.{Row}
-use Rattle.sizing.specs.Sizes.{rowBy, row-known, Parted, sizeBy, minimumOf, capacityOf, minimum-most, capacity-most}
+use Rattle.onequeue.specs.declared.Shown.{Shown}
+use Rattle.sizing.specs.Sizes.{row-known, Parted, sizeBy, leastOf, capacityOf, least-parted, minimum-most, capacity-most}
 use Rattle.sizing.proofs.size_of.Statement.{statement}
 use Rattle.sizing.proofs.size_of.Tie as tie
 
--- the numbers handed in are the queue's, and so are b, its minimum, and k, its capacity
+-- the numbers handed in are the queue's, and so are m, its minimum and naming count, and k, its capacity
 module _ {q : Queue} {row : Row} (p : Parted q row) where
   known : Known row
   known = rw (p .parts) (row-known (p .sound))
 
-  module _ {b k : ℕ} (eb : b ≡ minimum 0 (row .produce) (row .threshold) (row .consume)) (ek : k ≡ capacity (q .capacity) b) where
-    minimum-same : b ≡ minimumOf q
-    unfolding rowBy
-    minimum-same = eb ∙ ap (λ (r : Row). minimum 0 (r .produce) (r .threshold) (r .consume)) (p .parts)
+  module _ {m : Shown} {k : ℕ} (em : m ≡ least 0 (row .produce) (row .threshold) (row .consume)) (ek : k ≡ capacity (q .capacity) (m .minimum)) where
+    least-same : m ≡ leastOf q
+    least-same = em ∙ least-parted p
 
     capacity-same : k ≡ capacityOf q
-    capacity-same = ek ∙ ap (capacity (q .capacity)) minimum-same
+    capacity-same = ek ∙ ap (λ (n : Shown). capacity (q .capacity) (n .minimum)) least-same
 
-    within : Within k b
-    within = record { capacity = rw capacity-same (capacity-most (p .sound)); minimum = rw minimum-same (le-trans (minimum-most (p .sound)) (omega arith)) }
+    within : Within k (m .minimum)
+    within = record { capacity = rw capacity-same (capacity-most (p .sound)); minimum = rw least-same (le-trans (minimum-most (p .sound)) (omega arith)) }
 
-    line : (x y : ℕ) {v : ℕ} {m : ℤ} → v ≡ naming 0 (row .produce) (row .threshold) (row .consume) → m ≡ margin k b → record { x = x; y = y; minimum = b; by = v; capacity = k; margin = m } ≡ sizeBy q x y
-    unfolding sizeBy rowBy
-    line x y ev em = λ i. record {
+    line : (x y : ℕ) {z : ℤ} → z ≡ margin k (m .minimum) → record { x = x; y = y; minimum = m .minimum; by = m .by; capacity = k; margin = z } ≡ sizeBy q x y
+    unfolding sizeBy
+    line x y ez = λ i. record {
       x = x;
       y = y;
-      minimum = minimum-same i;
-      by = (ev ∙ ap (λ (r : Row). naming 0 (r .produce) (r .threshold) (r .consume)) (p .parts)) i;
+      minimum = least-same i .minimum;
+      by = least-same i .by;
       capacity = capacity-same i;
-      margin = (em ∙ ap₂ margin capacity-same minimum-same) i;
+      margin = (ez ∙ ap₂ (λ (b : ℕ) (n : Shown). margin b (n .minimum)) capacity-same least-same) i;
     }
 
-minimum-requires : tie.Need-minimum-requires
-minimum-requires c κs = known (c .pre)
+least-requires : tie.Need-least-requires
+least-requires c κs = known (c .pre)
 
 capacity-requires : tie.Need-capacity-requires
 capacity-requires c κs = search needs
 
-naming-requires : tie.Need-naming-requires
-naming-requires c κs = known (c .before .before .pre)
-
 margin-requires : tie.Need-margin-requires
-margin-requires c κs = within (c .before .before .before .pre) (c .before .before .minimum .ensures) (c .before .capacity .ensures)
+margin-requires c κs = within (c .before .before .pre) (c .before .least .ensures) (c .capacity .ensures)
 
 returns : tie.Need-returns
 returns c =
     let h : SFits w32 (c .margin .result) = search needs in
-    let n = c .before in
-    let k = n .before in
-    let b = k .before in
-    line (b .before .pre) (b .minimum .ensures) (k .capacity .ensures) (b .before .args .x) (b .before .args .y) (n .naming .ensures) (toZ-ofZ h ∙ c .margin .ensures)
+    let k = c .before in
+    let m = k .before in
+    line (m .before .pre) (m .least .ensures) (k .capacity .ensures) (m .before .args .x) (m .before .args .y) (toZ-ofZ h ∙ c .margin .ensures)
 
 pub size-of-spec : {M : Type 1} → statement M
-size-of-spec =
-    tie.close (tie.spec minimum-requires capacity-requires naming-requires margin-requires returns)
+size-of-spec = tie.close (tie.spec least-requires capacity-requires margin-requires returns)
