@@ -15,6 +15,8 @@
 --   feed, feed-line          the factory chain 0, whose queue has the minimum 10, by 4 firings of the source
 --   three-short              no smaller naming count would do: an accepted list with 3 firings of the source, in which the queue never holds 10
 --   six-full                 no smaller minimum would do: an accepted list in which nodes fire at once, after which the queue holds 10
+--   permeate, permeate-line  the factory chain 1, whose queue 1 has the minimum 6, by 3 firings of its producer
+--   two-full                 the naming count is a bound: an accepted list with 2 firings of that producer, after which the queue holds 6
 --   slow, slow-cycle         an accepted chain with a cycle longer than any immediate run
 use mathlib.Core.Path.{_≡_, refl, sym, ap, subst, _∙_}
 use mathlib.Core.Logic.{_↔_}
@@ -191,6 +193,24 @@ six-low = (λ l. omega arith, (λ l. omega arith, (λ l. omega arith, (λ l. ome
 pub six-full : (Fires feed six × AtOnce feed six) × (heldAt (replayAnswer feed six .run) 0 ≡ 10)
 unfolding factoryAnswer replayAnswer
 six-full = ((refl, λ g k i e. firing-at LowAfter g k i (subst (Firings LowAfter) e six-low)), refl)
+
+-- the factory chain 1
+abbrev pub permeate : Chain
+permeate = factoryAnswer 1 .chain
+
+-- what analyse answers of its queue 1
+pub permeate-line : (line permeate 1 .minimum ≡ 6) × (line permeate 1 .by ≡ 3)
+unfolding factoryAnswer analyseAnswer
+permeate-line = (refl, refl)
+
+-- two firings of that queue's producer
+abbrev pub two : List ℕ
+two = 0 ∷ 0 ∷ 1 ∷ 0 ∷ 1 ∷ []
+
+-- manual firing accepts them, and with one firing less than the naming count the queue holds its minimum
+pub two-full : (Fires permeate two × (times 1 two ≡ 2)) × (heldAt (replayAnswer permeate two .run) 1 ≡ 6)
+unfolding factoryAnswer replayAnswer times
+two-full = ((refl, refl), refl)
 
 -- a chain whose source's tokens come one by one, and are taken by 65521, and those of the node between by 65519
 abbrev pub slow : Chain
