@@ -4,3 +4,4 @@ pub mod Table
 pub mod Words
 pub mod Rows
 pub mod Reader
+pub mod Literal
