@@ -5,7 +5,7 @@ ghost use lib.ListN.{length};
 ghost use Rattle.ardenquill.specs.Files.{readAnswer, packed, roomCheck, writeRefusal, Output};
 ghost use Rattle.ardenquill.specs.Chains.{factoryAnswer};
 ghost use Rattle.ardenquill.specs.Analyses.{analyseAnswer, runAnswer};
-ghost use Rattle.ardenquill.specs.Reports.{headed, refusalText, reportText, reportRefusal};
+ghost use Rattle.ardenquill.specs.Reports.{headed, longestReport, refusalText, reportText, reportRefusal};
 ghost use Rattle.ardenquill.specs.Runs.{freshAnswer, fireAnswer};
 ghost use Rattle.ardenquill.specs.Immediate.{immediateAnswer};
 ghost use Rattle.ardenquill.specs.Deadlines.{deadlineAnswer};
@@ -153,7 +153,7 @@ pub fn place_named(outcome: Outcome) -> u32
 
 // Bytes that are enough for every report.
 pub fn longest_report() -> usize
-    ensures { λ r. ⌜ r ≡ 1133 ⌝ }
+    ensures { λ r. ⌜ r ≡ longestReport ⌝ }
 {
     ardenquill::LONGEST_REPORT
 }

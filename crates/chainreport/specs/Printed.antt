@@ -12,7 +12,7 @@ use lib.ListN.{length, take, drop}
 use lib.Seq.{take-at}
 use borrow.Author.Tests.{eq-eqb, ne-eqb}
 use Rattle.ardenquill.specs.Files.{Output, output-fine, roomCheck}
-use Rattle.ardenquill.specs.Reports.{reportText, reportRefusal, refusalText, fileRefusal, longestReport, report-written, report-roomy, refusal-room}
+use Rattle.ardenquill.specs.Reports.{reportText, reportRefusal, refusalText, fileRefusal, longestReport, longestRefusal, report-written, report-roomy, refusal-room}
 use Rattle.chain.specs.declared.Refusal.{Refusal}
 use Rattle.chainfile.specs.declared.LengthAnswer.{LengthAnswer}
 
@@ -50,6 +50,6 @@ module _ (f o : List ℕ) (room : longestReport ≤ length o) {p : List ℕ} {a 
         → Output (roomCheck (length (refusalText (a .number) (a .place))) (length p)) (refusalText (a .number) (a .place)) p q b → take (b .length) q ≡ printed f
     unfolding printed
     prints-refusal hn hl v =
-        let long : 30 ≤ length p = omega (arith, ap length untouched) in
+        let long : longestRefusal ≤ length p = omega (arith, ap length untouched) in
         let h = output-fine (refusal-room (a .number) (a .place) (length p) hn hl long) v in
         rw (ne-eqb _ _ (λ z. n (number-same ∙ z)), ← number-same, ← place-same) (fronted p (ap (λ (u : LengthAnswer). u .length) (h .0)) (h .1))

@@ -19,8 +19,9 @@ use mathlib.Core.List.{List, [], _∷_, _++_, flatMap}
 use Prim.Native.Nat.{ℕ}
 use lib.ListN.{take, replicate}
 use Rattle.ardenquill.specs.Records.{Queue, Chain, Run}
+use Rattle.ardenquill.specs.Reports.{text}
 use Rattle.figures.specs.Questions.{read, write, report, analyse, checkedForRun, fresh, fire, immediate, deadline, tick, deadlineRun}
-use Rattle.figures.specs.Literals.{Row, repeated, row, chainOf, chain, feed, run, text, changed, refused, chainIs, stateIs, sizesAre, keeps, tickKeeps, cleanAt}
+use Rattle.figures.specs.Literals.{Row, repeated, row, chainOf, chain, feed, run, changed, refused, chainIs, stateIs, sizesAre, keeps, tickKeeps, cleanAt}
 use Rattle.figures.specs.Files.{feedFile, apartFile, full, fullFile, heading}
 
 -- a file or a chain with number and place
@@ -265,7 +266,7 @@ justAccepted =
     -- 6 and 7 are said of a report, before 10: y 131,072 × 65,535; 32 of 30; and not 28 of 30
     ∷ (report (changed (changed largestFile 4 (0 ∷ 0 ∷ 2 ∷ [])) 20 (1 ∷ 0 ∷ [])) (7 ∷ []), 6 ∷ 1 ∷ 0 ∷ 7 ∷ [])
     ∷ (report (changed feedFile 40 (8 ∷ [])) (7 ∷ []), 7 ∷ 0 ∷ 0 ∷ 7 ∷ [])
-    ∷ (report (changed feedFile 40 (7 ∷ [])) (replicate 60 7), 0 ∷ 0 ∷ 60 ∷ (heading ++ text "0,4,30,10,10,0\nbusy,28,30\n"))
+    ∷ (report (changed feedFile 40 (7 ∷ [])) (replicate 65 7), 0 ∷ 0 ∷ 65 ∷ (heading ++ text "0,4,30,10,4,10,0\nbusy,28,30\n"))
     -- and not of a file that is read or a record that is written
     ∷ (read (changed feedFile 40 (8 ∷ [])), chainIs (one 10 4 7 3 0 0 8))
     ∷ (write (one 131072 1 32768 32768 0 0 1) [], 10 ∷ 44 ∷ 0 ∷ [])

@@ -17,7 +17,7 @@ use lib.ListN.{length, getD, replicate}
 use Rattle.ardenquill.specs.Records.{Chain}
 use Rattle.figures.specs.Questions.{analyse, checkedForRun, fresh, fire, immediate, deadline, tick, tickForC, deadlineRun}
 use Rattle.figures.specs.Questions.{deadlineRunForC, deadlineRunRefusal, answerTo, chainNumbers, stateNumbers}
-use Rattle.figures.specs.Literals.{Row, repeated, row, chain, feed, permeate, flush, run, text, refused, stateIs, sizesAre, keeps, cleanAt, overflowedAt}
+use Rattle.figures.specs.Literals.{Row, repeated, row, chain, feed, permeate, flush, run, refused, stateIs, sizesAre, keeps, cleanAt, overflowedAt}
 use Rattle.figures.specs.Files.{full, files, reports}
 use Rattle.figures.specs.ChainRefusals.{chainRefusals, byFile, byRecord, accepted}
 use Rattle.figures.specs.RunRefusals.{runRefusals, byState}
@@ -147,5 +147,5 @@ right-rows (r ∷ rs) d h (suc i) l = right-rows rs d (both (same (r .1) (answer
 
 -- every figure of the table is right
 pub figures : (i : ℕ) → i < length table → getD table i (analyse feed, []) .1 ≡ answerTo (getD table i (analyse feed, []) .0)
-unfolding allRight chainNumbers stateNumbers repeated text flatMap byFile byRecord accepted byState
+unfolding allRight chainNumbers stateNumbers repeated flatMap byFile byRecord accepted byState
 figures = right-rows table (analyse feed, []) tt

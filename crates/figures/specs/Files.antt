@@ -10,11 +10,12 @@
 --   heading, feedReport      the report's first line, and the whole report of Feed
 --   files, reports           the questions with their answers
 use mathlib.Core.List.{List, [], _∷_, _++_}
-use Prim.Native.Nat.{ℕ}
+use Prim.Native.Nat.{ℕ, _-_}
 use lib.ListN.{replicate}
 use Rattle.ardenquill.specs.Records.{Chain}
+use Rattle.ardenquill.specs.Reports.{text, longestReport}
 use Rattle.figures.specs.Questions.{read, write, factory, report, refusalLine, headed, analyse}
-use Rattle.figures.specs.Literals.{Row, repeated, row, chainOf, chain, feed, permeate, flush, text, refused, chainIs, sizesAre}
+use Rattle.figures.specs.Literals.{Row, repeated, row, chainOf, chain, feed, permeate, flush, refused, chainIs, sizesAre}
 
 -- "all words are 32 bits, little-endian"; n, y and the two offsets with the length; a line to each queue row; the execution times
 abbrev pub feedFile : List ℕ
@@ -72,17 +73,17 @@ fullFile =
     16 ∷ 0 ∷ 0 ∷ 0 ∷ 16 ∷ 0 ∷ 0 ∷ 0 ∷ 20 ∷ 0 ∷ 0 ∷ 0 ∷ 84 ∷ 1 ∷ 0 ∷ 0 ∷ 148 ∷ 1 ∷ 0 ∷ 0
     ∷ (repeated 16 (1 ∷ 0 ∷ 0 ∷ 0 ∷ 1 ∷ 0 ∷ 0 ∷ 0 ∷ 1 ∷ 0 ∷ 0 ∷ 0 ∷ 0 ∷ 0 ∷ 0 ∷ 0 ∷ 0 ∷ 0 ∷ 0 ∷ 0 ∷ []) ++ repeated 16 (1 ∷ 0 ∷ 0 ∷ 0 ∷ []))
 
--- y 100; (6,9,4,20) (5,12,3,9) (4,25,14,1000); e 2, 3, 4
+-- y 100; (6,17,4,30) (5,22,3,9) (4,35,14,1000); e 2, 3, 4
 abbrev pub short : Chain
-short = chain 100 (row 6 9 4 20 0 ∷ row 5 12 3 9 0 ∷ row 4 25 14 1000 0 ∷ []) (2 ∷ 3 ∷ 4 ∷ [])
+short = chain 100 (row 6 17 4 30 0 ∷ row 5 22 3 9 0 ∷ row 4 35 14 1000 0 ∷ []) (2 ∷ 3 ∷ 4 ∷ [])
 
 -- 1,000 is 232 + 3 × 256
 abbrev pub shortFile : List ℕ
 shortFile =
     3 ∷ 0 ∷ 0 ∷ 0 ∷ 100 ∷ 0 ∷ 0 ∷ 0 ∷ 20 ∷ 0 ∷ 0 ∷ 0 ∷ 80 ∷ 0 ∷ 0 ∷ 0 ∷ 92 ∷ 0 ∷ 0 ∷ 0
-    ∷ 6 ∷ 0 ∷ 0 ∷ 0 ∷ 9 ∷ 0 ∷ 0 ∷ 0 ∷ 4 ∷ 0 ∷ 0 ∷ 0 ∷ 20 ∷ 0 ∷ 0 ∷ 0 ∷ 0 ∷ 0 ∷ 0 ∷ 0
-    ∷ 5 ∷ 0 ∷ 0 ∷ 0 ∷ 12 ∷ 0 ∷ 0 ∷ 0 ∷ 3 ∷ 0 ∷ 0 ∷ 0 ∷ 9 ∷ 0 ∷ 0 ∷ 0 ∷ 0 ∷ 0 ∷ 0 ∷ 0
-    ∷ 4 ∷ 0 ∷ 0 ∷ 0 ∷ 25 ∷ 0 ∷ 0 ∷ 0 ∷ 14 ∷ 0 ∷ 0 ∷ 0 ∷ 232 ∷ 3 ∷ 0 ∷ 0 ∷ 0 ∷ 0 ∷ 0 ∷ 0
+    ∷ 6 ∷ 0 ∷ 0 ∷ 0 ∷ 17 ∷ 0 ∷ 0 ∷ 0 ∷ 4 ∷ 0 ∷ 0 ∷ 0 ∷ 30 ∷ 0 ∷ 0 ∷ 0 ∷ 0 ∷ 0 ∷ 0 ∷ 0
+    ∷ 5 ∷ 0 ∷ 0 ∷ 0 ∷ 22 ∷ 0 ∷ 0 ∷ 0 ∷ 3 ∷ 0 ∷ 0 ∷ 0 ∷ 9 ∷ 0 ∷ 0 ∷ 0 ∷ 0 ∷ 0 ∷ 0 ∷ 0
+    ∷ 4 ∷ 0 ∷ 0 ∷ 0 ∷ 35 ∷ 0 ∷ 0 ∷ 0 ∷ 14 ∷ 0 ∷ 0 ∷ 0 ∷ 232 ∷ 3 ∷ 0 ∷ 0 ∷ 0 ∷ 0 ∷ 0 ∷ 0
     ∷ 2 ∷ 0 ∷ 0 ∷ 0 ∷ 3 ∷ 0 ∷ 0 ∷ 0 ∷ 4 ∷ 0 ∷ 0 ∷ 0 ∷ []
 
 -- what is read, made and written; lent bytes are 7
@@ -115,31 +116,33 @@ files =
     ∷ (factory 4294967295, refused 14 4294967295 98)
     ∷ []
 
--- "the first line is always `queue,x,y,minimum,capacity,margin`"
+-- "the first line is always `queue,x,y,minimum,capacity,margin`", "a column `by` after `minimum`" (02, Item 1)
 abbrev pub heading : List ℕ
-heading = text "queue,x,y,minimum,capacity,margin\n"
+heading = text "queue,x,y,minimum,by,capacity,margin\n"
 
 -- "for the Feed chain, whole"
 abbrev pub feedReport : List ℕ
-feedReport = text "queue,x,y,minimum,capacity,margin\n0,4,30,10,10,0\nbusy,8,30\n"
+feedReport = text "queue,x,y,minimum,by,capacity,margin\n0,4,30,10,4,10,0\nbusy,8,30\n"
 
 -- what is reported, of files and of refusals; lent bytes are 7
 abbrev pub reports : List Row
 reports =
-    -- Feed's: 59 bytes, into as many, into more, and refused with one byte less
-    (report feedFile (replicate 59 7), 0 ∷ 0 ∷ 59 ∷ feedReport)
-    ∷ (report feedFile (replicate 1133 7), 0 ∷ 0 ∷ 59 ∷ (feedReport ++ replicate 1074 7))
-    ∷ (report feedFile (replicate 58 7), 10 ∷ 59 ∷ 0 ∷ replicate 58 7)
-    ∷ (report permeateFile (replicate 74 7), 0 ∷ 0 ∷ 73 ∷ (heading ++ (text "0,4,15,10,10,0\n1,6,15,6,6,0\nbusy,10,15\n" ++ (7 ∷ []))))
-    ∷ (report shortFile (replicate 102 7), 0 ∷ 0 ∷ 102 ∷ (heading ++ text "0,3,200,14,20,6\n1,5,200,16,9,-7\n2,10,1400,28,1000,972\nbusy,187,1400\n"))
+    -- Feed's: 64 bytes, into as many, into room for the longest report, and refused with one byte less
+    (report feedFile (replicate 64 7), 0 ∷ 0 ∷ 64 ∷ feedReport)
+    ∷ (report feedFile (replicate longestReport 7), 0 ∷ 0 ∷ 64 ∷ (feedReport ++ replicate (longestReport - 64) 7))
+    ∷ (report feedFile (replicate 63 7), 10 ∷ 64 ∷ 0 ∷ replicate 63 7)
+    ∷ (report permeateFile (replicate 81 7), 0 ∷ 0 ∷ 80 ∷ (heading ++ (text "0,4,15,10,4,10,0\n1,6,15,6,3,6,0\nbusy,10,15\n" ++ (7 ∷ []))))
+    ∷ (report flushFile (replicate 83 7), 0 ∷ 0 ∷ 83 ∷ (heading ++ text "0,1,100,64,4,64,0\n1,1,800,8,8,8,0\nbusy,43,800\n"))
+    ∷ (report flushFile (replicate 82 7), 10 ∷ 83 ∷ 0 ∷ replicate 82 7)
+    ∷ (report shortFile (replicate 113 7), 0 ∷ 0 ∷ 113 ∷ (heading ++ text "0,3,200,22,5,30,8\n1,5,200,26,7,9,-17\n2,10,1400,38,13,1000,962\nbusy,187,1400\n"))
     ∷ (
-      report fullFile (replicate 259 7),
-      0 ∷ 0 ∷ 259
-          ∷ (heading ++ (text "0,1,16,1,1,0\n1,1,16,1,1,0\n2,1,16,1,1,0\n3,1,16,1,1,0\n4,1,16,1,1,0\n5,1,16,1,1,0\n6,1,16,1,1,0\n7,1,16,1,1,0\n8,1,16,1,1,0\n9,1,16,1,1,0\n"
-          ++ text "10,1,16,1,1,0\n11,1,16,1,1,0\n12,1,16,1,1,0\n13,1,16,1,1,0\n14,1,16,1,1,0\n15,1,16,1,1,0\nbusy,16,16\n")),
+      report fullFile (replicate 294 7),
+      0 ∷ 0 ∷ 294
+          ∷ (heading ++ (text "0,1,16,1,1,1,0\n1,1,16,1,1,1,0\n2,1,16,1,1,1,0\n3,1,16,1,1,1,0\n4,1,16,1,1,1,0\n5,1,16,1,1,1,0\n6,1,16,1,1,1,0\n7,1,16,1,1,1,0\n8,1,16,1,1,1,0\n9,1,16,1,1,1,0\n"
+          ++ text "10,1,16,1,1,1,0\n11,1,16,1,1,1,0\n12,1,16,1,1,1,0\n13,1,16,1,1,1,0\n14,1,16,1,1,1,0\n15,1,16,1,1,1,0\nbusy,16,16\n")),
     )
-    -- two of these as analyses, with the naming counts
-    ∷ (analyse short, sizesAre 3 (3 ∷ 200 ∷ 14 ∷ 3 ∷ 20 ∷ 0 ∷ 6 ∷ 5 ∷ 200 ∷ 16 ∷ 5 ∷ 9 ∷ 1 ∷ 7 ∷ 10 ∷ 1400 ∷ 28 ∷ 10 ∷ 1000 ∷ 0 ∷ 972 ∷ []) 187 1400)
+    -- two of these as analyses
+    ∷ (analyse short, sizesAre 3 (3 ∷ 200 ∷ 22 ∷ 5 ∷ 30 ∷ 0 ∷ 8 ∷ 5 ∷ 200 ∷ 26 ∷ 7 ∷ 9 ∷ 1 ∷ 17 ∷ 10 ∷ 1400 ∷ 38 ∷ 13 ∷ 1000 ∷ 0 ∷ 962 ∷ []) 187 1400)
     ∷ (analyse full, sizesAre 16 (repeated 16 (1 ∷ 16 ∷ 1 ∷ 1 ∷ 1 ∷ 0 ∷ 0 ∷ [])) 16 16)
     -- "a refusal prints only the line `refused,number,place`"
     ∷ (refusalLine 4 28 (replicate 13 7), 0 ∷ 0 ∷ 13 ∷ text "refused,4,28\n")
@@ -150,10 +153,11 @@ reports =
     ∷ (headed heading, 1 ∷ [])
     ∷ (
       headed (113 ∷ 117 ∷ 101 ∷ 117 ∷ 101 ∷ 44 ∷ 120 ∷ 44 ∷ 121 ∷ 44 ∷ 109 ∷ 105 ∷ 110 ∷ 105 ∷ 109 ∷ 117 ∷ 109 ∷ 44
-          ∷ 99 ∷ 97 ∷ 112 ∷ 97 ∷ 99 ∷ 105 ∷ 116 ∷ 121 ∷ 44 ∷ 109 ∷ 97 ∷ 114 ∷ 103 ∷ 105 ∷ 110 ∷ 10 ∷ 0 ∷ []),
+          ∷ 98 ∷ 121 ∷ 44 ∷ 99 ∷ 97 ∷ 112 ∷ 97 ∷ 99 ∷ 105 ∷ 116 ∷ 121 ∷ 44 ∷ 109 ∷ 97 ∷ 114 ∷ 103 ∷ 105 ∷ 110 ∷ 10 ∷ 0 ∷ []),
       1 ∷ [],
     )
-    ∷ (headed (text "queue,x,y,minimum,capacity,margin"), 0 ∷ [])
-    ∷ (headed (text "queue,y,x,minimum,capacity,margin\n"), 0 ∷ [])
+    ∷ (headed (text "queue,x,y,minimum,by,capacity,margin"), 0 ∷ [])
+    ∷ (headed (text "queue,y,x,minimum,by,capacity,margin\n"), 0 ∷ [])
+    ∷ (headed (text "queue,x,y,minimum,capacity,margin\n"), 0 ∷ [])
     ∷ (headed [], 0 ∷ [])
     ∷ []

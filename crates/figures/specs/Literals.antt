@@ -7,7 +7,6 @@
 --                            a chain of n queues, and of as many as rows are written
 --   feed, permeate, flush    01's factory chains
 --   run t counts held done   a run state
---   text s                   the bytes of a text
 --   changed f at bs          the bytes f with bs in place of those from `at` on
 --   refused N L k            an answer: number and place, and k other results, all zero
 --   chainIs c, stateIs s     an answer that is not refused: a chain, a run state
@@ -19,8 +18,6 @@
 --                            an outcome and the state that it leaves: clean, overflowed at tick t and queue q, 13 at tick t and node i
 use mathlib.Core.List.{List, [], _∷_, _++_}
 use Prim.Native.Nat.{ℕ, zero, suc, _+_, _-_}
-use Prim.Native.Char.{code}
-use Prim.Native.String.{String, [] as none, _∷_ as _then_}
 use lib.ListN.{length, take, drop, replicate}
 use Rattle.ardenquill.specs.Records.{Queue, Chain, Run}
 use Rattle.figures.specs.Questions.{Question, chainNumbers, stateNumbers}
@@ -61,11 +58,6 @@ flush = chain 100 (row 16 64 16 0 0 ∷ row 1 8 8 0 0 ∷ []) (5 ∷ 3 ∷ [])
 -- a run state in its 17, 16 and 16 slots
 abbrev pub run : ℕ → List ℕ → List ℕ → List ℕ → Run
 run t counts held done = record { clock = t; counts = filled 17 counts; held = filled 16 held; done = filled 16 done }
-
--- the bytes of a text
-unfoldable pub text : String → List ℕ
-text none = []
-text (c then s) = code c ∷ text s
 
 -- other bytes in the place of some
 abbrev pub changed : List ℕ → ℕ → List ℕ → List ℕ

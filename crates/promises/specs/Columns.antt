@@ -1,4 +1,4 @@
--- A report and the line of a refusal, read back line by line and column by column (01, Report program), said without the definitions of their texts.
+-- A report and the line of a refusal, read back line by line and column by column (01, Report program; 02, Item 1), said without the definitions of their texts.
 --   cut b t                 the pieces of t between its bytes b (Cut)
 --   Writes s n, WritesSigned s z
 --                           the bytes s write the number n, and the signed number z (Written)
@@ -6,6 +6,7 @@
 --   Reads s c               the bytes s are that
 --   IsLine cs s             s, cut at its commas (44), has these columns and no other
 --   lineAt t i              line i of t, which is cut at its line feeds (10)
+--   firstLine               the first line, without its line feed
 --   queueColumns i q, busyColumns a, refusalColumns N L
 --                           the columns of queue i's line, of the last line, and of the line of a refusal
 --   IsReport a t, IsRefusal N L t
@@ -13,7 +14,7 @@
 --   report-is, refusal-is   it is so exactly where t is `textOf`, and `refusalText`: nothing else fits
 use mathlib.Core.Path.{_≡_, refl, sym, ap, subst, _∙_}
 use mathlib.Core.Logic.{_↔_, by-cases}
-use mathlib.Core.List.{List, [], _∷_, _++_, append-assoc, append-nil}
+use mathlib.Core.List.{List, [], _∷_, _++_, map, append-assoc, append-nil}
 use Prim.Native.Nat.{ℕ, zero, suc, _+_, _<_}
 use native.Mathlib.Decide.{ℕ-discrete, decLt}
 use native.Mathlib.Omega.{arith}
@@ -21,7 +22,7 @@ use lib.ListN.{length, getD, length-append, List·getD-append}
 use lib.Seq.{ext-getD, getD-at, getD-append-add}
 use lib.IntN.{ℤ}
 use Rattle.ardenquill.specs.Chains.{flat, tab, tab-at, tab-last, length-tab}
-use Rattle.ardenquill.specs.Reports.{decimal, column, integer, occurrences, Without, without-decimal, without-integer, numbers, line}
+use Rattle.ardenquill.specs.Reports.{decimal, column, integer, occurrences, Without, without-decimal, without-integer, text, columns, numbers, line}
 use Rattle.ardenquill.specs.Reports.{lines, busyLine, textOf, refusalText, OneLine, heading-one, queue-one, busy-one, refusal-one}
 use Rattle.ardenquill.specs.Records.{QueueSize, Analysis}
 use Rattle.promises.specs.Zeros.{zeroLine}
@@ -49,27 +50,29 @@ pub record IsLine (cs : List Column) (s : List ℕ) : Type 0 where
 abbrev pub lineAt : List ℕ → ℕ → List ℕ
 lineAt t i = getD (cut 10 t) i []
 
--- "One line follows per queue: its number, its consumer's rate, b, capacity, margin"
+-- "The first line is always `queue,x,y,minimum,capacity,margin`", "a column `by` after `minimum`" (02, Item 1)
+abbrev pub firstLine : List ℕ
+firstLine = text "queue,x,y,minimum,by,capacity,margin"
+
+-- "One line follows per queue: its number, its consumer's rate, b, capacity, margin", the naming count behind b (02, Item 1)
 abbrev pub queueColumns : ℕ → QueueSize → List Column
-queueColumns i q = number i ∷ number (q .x) ∷ number (q .y) ∷ number (q .minimum) ∷ number (q .capacity) ∷ signed (q .margin) ∷ []
+queueColumns i q = number i ∷ number (q .x) ∷ number (q .y) ∷ number (q .minimum) ∷ number (q .by) ∷ number (q .capacity) ∷ signed (q .margin) ∷ []
 
 -- "The last line is `busy`, busy ticks, cycle"
 abbrev pub busyColumns : Analysis → List Column
-busyColumns a = word (98 ∷ 117 ∷ 115 ∷ 121 ∷ []) ∷ number (a .busy) ∷ number (a .cycle) ∷ []
+busyColumns a = word (text "busy") ∷ number (a .busy) ∷ number (a .cycle) ∷ []
 
--- "The first line is always `queue,x,y,minimum,capacity,margin`", then the queues' lines and the last one, and behind its line feed nothing
+-- the first line, then the queues' lines and the last one, and behind its line feed nothing
 pub record IsReport (a : Analysis) (t : List ℕ) : Type 0 where
   pub pieces : length (cut 10 t) ≡ a .n + 3
-  pub first : lineAt t 0
-      ≡ 113 ∷ 117 ∷ 101 ∷ 117 ∷ 101 ∷ 44 ∷ 120 ∷ 44 ∷ 121 ∷ 44 ∷ 109 ∷ 105 ∷ 110 ∷ 105 ∷ 109 ∷ 117 ∷ 109 ∷ 44
-      ∷ 99 ∷ 97 ∷ 112 ∷ 97 ∷ 99 ∷ 105 ∷ 116 ∷ 121 ∷ 44 ∷ 109 ∷ 97 ∷ 114 ∷ 103 ∷ 105 ∷ 110 ∷ []
+  pub first : lineAt t 0 ≡ firstLine
   pub queues : (i : ℕ) → i < a .n → IsLine (queueColumns i (getD (a .queues) i zeroLine)) (lineAt t (suc i))
   pub last : IsLine (busyColumns a) (lineAt t (suc (a .n)))
   pub ended : lineAt t (suc (suc (a .n))) ≡ []
 
 -- "the line `refused,number,place`"
 abbrev pub refusalColumns : ℕ → ℕ → List Column
-refusalColumns N L = word (114 ∷ 101 ∷ 102 ∷ 117 ∷ 115 ∷ 101 ∷ 100 ∷ []) ∷ number N ∷ number L ∷ []
+refusalColumns N L = word (text "refused") ∷ number N ∷ number L ∷ []
 
 -- "A refusal prints only" that line, with its line feed
 pub record IsRefusal (N L : ℕ) (t : List ℕ) : Type 0 where
@@ -139,23 +142,24 @@ number-more {s} {cs} n h =
 signed-one : (z : ℤ) → IsLine (signed z ∷ []) (integer z)
 signed-one z = line-one (without-integer 44 (omega arith) z) (signed-integer _ z .1 refl)
 
-six-in-row : (a b c d e f : List ℕ) → (a ++ (b ++ (c ++ (d ++ e)))) ++ f ≡ a ++ (b ++ (c ++ (d ++ (e ++ f))))
-six-in-row a b c d e f = simp append-assoc
+-- numbers in a row are columns before those that follow
+numbers-more : {s : List ℕ} {cs : List Column} (ns : List ℕ) → IsLine cs s → IsLine (map number ns ++ cs) (numbers ns ++ s)
+unfolding numbers
+numbers-more [] h = h
+numbers-more {s} (n ∷ ns) h = rw (append-assoc (column n 44) (numbers ns) s) (number-more n (numbers-more ns h))
 
 -- the lines of a queue, of the load and of a refusal, before their line feeds
 queue-line : (i : ℕ) (q : QueueSize) → IsLine (queueColumns i q) (queue-one i q .body)
-unfolding queue-one numbers
-queue-line i q =
-    let row = six-in-row (column i 44) (column (q .x) 44) (column (q .y) 44) (column (q .minimum) 44) (column (q .capacity) 44) (integer (q .margin)) in
-    subst (IsLine (queueColumns i q)) (sym row) (number-more i (number-more (q .x) (number-more (q .y) (number-more (q .minimum) (number-more (q .capacity) (signed-one (q .margin)))))))
+unfolding queue-one
+queue-line i q = numbers-more (columns i q) (signed-one (q .margin))
 
 busy-line : (a : Analysis) → IsLine (busyColumns a) (busy-one a .body)
 unfolding busy-one occurrences
-busy-line a = line-more {w = 98 ∷ 117 ∷ 115 ∷ 121 ∷ []} (record { none = refl }) refl (number-more (a .busy) (number-one (a .cycle)))
+busy-line a = line-more {w = text "busy"} (record { none = refl }) refl (number-more (a .busy) (number-one (a .cycle)))
 
 refusal-line : (N L : ℕ) → IsLine (refusalColumns N L) (refusal-one N L .body)
 unfolding refusal-one occurrences
-refusal-line N L = line-more {w = 114 ∷ 101 ∷ 102 ∷ 117 ∷ 115 ∷ 101 ∷ 100 ∷ []} (record { none = refl }) refl (number-more N (number-one L))
+refusal-line N L = line-more {w = text "refused"} (record { none = refl }) refl (number-more N (number-one L))
 
 -- a line and what follows it, and lines in a row, are cut into these lines
 cut-line : {s : List ℕ} (o : OneLine s) (t : List ℕ) → cut 10 (s ++ t) ≡ o .body ∷ cut 10 t

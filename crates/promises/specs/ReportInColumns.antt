@@ -16,7 +16,8 @@
 --   report-columns           so what an accepted call leaves at their front is the report
 --   refusal-lent             the call that writes the line of a refusal gives them that line, or 10
 --   headed-when              when a text begins with the first line
---   report-fits              room that is enough for every report
+--   longest-report-is        how many bytes LONGEST_REPORT says
+--   report-fits              which are room enough for every report
 use mathlib.Core.Path.{_≡_, refl, sym, ap, subst, _∙_}
 use mathlib.Core.Bool.{true}
 use mathlib.Core.Logic.{_↔_, _≢_, by-cases}
@@ -32,8 +33,8 @@ use Rattle.ardenquill.specs.Chains.{Silent, refused}
 use Rattle.ardenquill.specs.Files.{readAnswer, chainOf, readRefusal, roomCheck, Output, output-fine}
 use Rattle.ardenquill.specs.Analyses.{analysisOf, analyseAnswer, sized}
 use Rattle.ardenquill.specs.Records.{Refusal, Chain, Analysis, LengthAnswer}
-use Rattle.ardenquill.specs.Reports.{reportText, reportRefusal, refusalText, report-as-read, report-as-analysed, report-as-room, headed, headed-true, report-room}
-use Rattle.promises.specs.Columns.{IsReport, IsRefusal, report-is, refusal-is}
+use Rattle.ardenquill.specs.Reports.{reportText, reportRefusal, refusalText, report-as-read, report-as-analysed, report-as-room, headed, headed-true, longestReport, report-room}
+use Rattle.promises.specs.Columns.{firstLine, IsReport, IsRefusal, report-is, refusal-is}
 use Rattle.promises.specs.Replay.{accepts-is}
 use Rattle.promises.specs.Laws.{report-is as answered-analysis}
 
@@ -146,15 +147,16 @@ module _ (f o p : List ℕ) (r : LengthAnswer) (w : Output (reportRefusal f (len
 pub refusal-lent : (N L : ℕ) (o p : List ℕ) (r : LengthAnswer) → Output (roomCheck (length (refusalText N L)) (length o)) (refusalText N L) o p r → LentOne (IsRefusal N L) o p r
 refusal-lent N L o p r w = record { text = refusalText N L; is = refusal-is N L _ .1 refl; lent = lent w }
 
--- "The first line is always `queue,x,y,minimum,capacity,margin`": a text is headed exactly where its first 34 bytes are that line and its line feed
-pub headed-when : (t : List ℕ)
-    → (headed t ≡ true) ↔ (take 34 t
-    ≡ 113 ∷ 117 ∷ 101 ∷ 117 ∷ 101 ∷ 44 ∷ 120 ∷ 44 ∷ 121 ∷ 44 ∷ 109 ∷ 105 ∷ 110 ∷ 105 ∷ 109 ∷ 117 ∷ 109 ∷ 44
-    ∷ 99 ∷ 97 ∷ 112 ∷ 97 ∷ 99 ∷ 105 ∷ 116 ∷ 121 ∷ 44 ∷ 109 ∷ 97 ∷ 114 ∷ 103 ∷ 105 ∷ 110 ∷ 10 ∷ [])
+-- "The first line is always" the same: a text is headed exactly where its first bytes are that line and its line feed
+pub headed-when : (t : List ℕ) → let line = firstLine ++ (10 ∷ []) in (headed t ≡ true) ↔ (take (length line) t ≡ line)
 headed-when = headed-true
 
--- 1,133 lent bytes, which is what LONGEST_REPORT says, are enough for every report
-pub report-fits : (f o p : List ℕ) (a : LengthAnswer) → Output (reportRefusal f (length o)) (reportText f) o p a → 1133 ≤ length o → a .number ≢ 10
+-- what LONGEST_REPORT says, as a number
+pub longest-report-is : longestReport ≡ 1312
+longest-report-is = refl
+
+-- so many lent bytes are enough for every report
+pub report-fits : (f o p : List ℕ) (a : LengthAnswer) → Output (reportRefusal f (length o)) (reportText f) o p a → longestReport ≤ length o → a .number ≢ 10
 report-fits f o p a w l e =
     let r : Refusal = reportRefusal f (length o) in
     let said : r .number ≡ 10 = sym (ap (λ (x : LengthAnswer). x .number) (w .answer)) ∙ e in

@@ -3,7 +3,7 @@
 --   Plain t            none
 --   OneLine t          t ends in a line feed, and has no other
 --   plain-comma, -numbers
---                      a number with its comma has none, nor have the numbers of a queue's line
+--                      a number with its comma has none, nor have such numbers in a row
 --   heading-, queue-, busy-, refusal-one
 --                      each line of a report is one, and that of a refusal
 --   report-feeds       a report of n queues has n + 2
@@ -19,7 +19,7 @@ use Rattle.sizing.specs.Sizes.{noSize}
 use Rattle.sizing.specs.declared.QueueSize.{QueueSize}
 use Rattle.sizing.specs.declared.Analysis.{Analysis}
 use Rattle.reporttext.specs.Occurrences.{occurrences, Without, occurrences-append, without-append, without-decimal, without-integer}
-use Rattle.reporttext.specs.Text.{heading, headingLength, numbers, line, lines, busyWord, busyLine, textOf}
+use Rattle.reporttext.specs.Text.{heading, headingLength, columns, numbers, line, lines, busyWord, busyLine, textOf}
 use Rattle.reporttext.specs.Refused.{refusalWord, refusalText}
 
 -- how many bytes are a line feed (10)
@@ -36,23 +36,23 @@ pub record OneLine (t : List ℕ) : Type 0 where
   pub plain : Plain body
   pub ended : t ≡ body ++ (10 ∷ [])
 
--- no number with its comma has one, nor have the numbers of a queue's line
+-- no number with its comma has one, nor have such numbers in a row
 pub plain-comma : (n : ℕ) → Plain (column n 44)
 unfolding column occurrences
 plain-comma n = without-append (without-decimal 10 (omega arith) n) (record { none = refl })
 
-pub plain-numbers : (i : ℕ) (q : QueueSize) → Plain (numbers i q)
-unfolding numbers
-plain-numbers i q =
-    without-append (plain-comma i) (without-append (plain-comma (q .x)) (without-append (plain-comma (q .y)) (without-append (plain-comma (q .minimum)) (plain-comma (q .capacity)))))
+pub plain-numbers : (ns : List ℕ) → Plain (numbers ns)
+unfolding numbers occurrences
+plain-numbers [] = record { none = refl }
+plain-numbers (n ∷ ns) = without-append (plain-comma n) (plain-numbers ns)
 
 -- "each line ended by one line feed": a queue's
 unfoldable pub queue-one : (i : ℕ) (q : QueueSize) → OneLine (line i q)
 unfolding line
 queue-one i q = record {
-  body = numbers i q ++ integer (q .margin);
-  plain = without-append (plain-numbers i q) (without-integer 10 (omega arith) (q .margin));
-  ended = sym (append-assoc (numbers i q) (integer (q .margin)) (10 ∷ []));
+  body = numbers (columns i q) ++ integer (q .margin);
+  plain = without-append (plain-numbers (columns i q)) (without-integer 10 (omega arith) (q .margin));
+  ended = sym (append-assoc (numbers (columns i q)) (integer (q .margin)) (10 ∷ []));
 }
 
 -- a word and two numbers

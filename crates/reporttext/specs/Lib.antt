@@ -2,6 +2,6 @@ pub mod Text
 pub mod Heading
 pub mod Occurrences
 pub mod Feeds
-pub mod Refused
 pub mod Short
+pub mod Refused
 pub mod Figures

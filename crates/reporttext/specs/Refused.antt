@@ -3,23 +3,25 @@
 --   refusalText N L   the line's bytes
 --   longestRefusal    bytes enough for every such line
 --   refusal-short     it has no more
-use mathlib.Core.List.{List, [], _∷_, _++_}
-use Prim.Native.Nat.{ℕ, _^_, _≤_, _<_}
+use mathlib.Core.List.{List, _++_}
+use Prim.Native.Nat.{ℕ, _+_, _*_, _^_, _≤_, _<_}
 use native.Mathlib.Omega.{arith}
 use lib.ListN.{length, length-append}
+use Rattle.words.specs.Literal.{text}
 use Rattle.decimal.specs.Digits.{column, column-word}
+use Rattle.reporttext.specs.Short.{longestColumn}
 
 abbrev pub refusalWord : List ℕ
-refusalWord = 114 ∷ 101 ∷ 102 ∷ 117 ∷ 115 ∷ 101 ∷ 100 ∷ 44 ∷ []
+refusalWord = text "refused,"
 
 -- "refused", the number and the place, a comma between them and a line feed behind
 unfoldable pub refusalText : ℕ → ℕ → List ℕ
 unfolding column
 refusalText N L = refusalWord ++ (column N 44 ++ column L 10)
 
--- 8 for the word and its comma, 11 for each number with the byte behind it
+-- the word with its comma, and two numbers
 abbrev pub longestRefusal : ℕ
-longestRefusal = 30
+longestRefusal = length refusalWord + 2 * longestColumn
 
 pub refusal-short : (N L : ℕ) → N < 2 ^ 32 → L < 2 ^ 32 → length (refusalText N L) ≤ longestRefusal
 unfolding refusalText

@@ -3,24 +3,36 @@
 ghost use mathlib.Core.Path.{_≡_};
 ghost use Prim.Native.Nat.{_+_, _*_, _≤_};
 ghost use Rattle.words.specs.Put.{Room, Puts};
-ghost use Rattle.reporttext.specs.Text.{numbers, line, lines, textOf};
+ghost use Rattle.reporttext.specs.Text.{columns, columnCount, numbers, line, lines, textOf};
 ghost use Rattle.reporttext.specs.Heading.{headed};
 ghost use Rattle.reporttext.specs.Refused.{longestRefusal, refusalText};
-ghost use Rattle.reporttext.specs.Short.{longestLine, longestReport, LinesFit};
+ghost use Rattle.reporttext.specs.Short.{longestColumn, longestLine, longestReport, LinesFit};
 use sizing::Analysis;
 use sizing::QueueSize;
 
-// Bytes enough for every report.
-pub const LONGEST_REPORT: usize = 1133;
+// Bytes enough for every report: the first line, a line for each of 16 queues, and the last line.
+pub const LONGEST_REPORT: usize = HEADING_LENGTH + 16 * LONGEST_LINE + LONGEST_BUSY_LINE;
 
 // Bytes enough for the line of every refusal.
-pub const LONGEST_REFUSAL: usize = 30;
+pub const LONGEST_REFUSAL: usize = 8 + 2 * LONGEST_COLUMN;
 
 // The length in bytes of a report's first line.
-const HEADING_LENGTH: usize = 34;
+const HEADING_LENGTH: usize = 37;
 
 // The first line of every report.
-const HEADING: [u8; HEADING_LENGTH] = *b"queue,x,y,minimum,capacity,margin\n";
+const HEADING: [u8; HEADING_LENGTH] = *b"queue,x,y,minimum,by,capacity,margin\n";
+
+// How many numbers of a queue's line stand before its margin.
+const COLUMNS: usize = 6;
+
+// Bytes enough for a number of 32 bits and the byte behind it.
+const LONGEST_COLUMN: usize = 11;
+
+// Bytes enough for every queue's line: its numbers, the margin with its sign, and the line feed.
+const LONGEST_LINE: usize = COLUMNS * LONGEST_COLUMN + 12;
+
+// Bytes enough for every last line.
+const LONGEST_BUSY_LINE: usize = 5 + 2 * LONGEST_COLUMN;
 
 // Whether a text begins with a report's first line.
 pub fn headed(text: &[u8]) -> bool
@@ -79,14 +91,17 @@ fn put_line(out: &mut [u8], at: usize, i: u32, q: QueueSize) -> usize
 
 // Writes the numbers of queue i's line before its margin, a comma behind each.
 fn put_numbers(out: &mut [u8], at: usize, i: u32, q: QueueSize) -> usize
-    requires { ⌜ Room (now out) at 55 ⌝ }
-    ensures { λ r. ⌜ Puts (now (out .entry)) at (numbers i q) (now (out .exit)) r × (r ≤ at + 55) ⌝ }
+    requires { ⌜ Room (now out) at (longestColumn * columnCount) ⌝ }
+    ensures { λ r. ⌜ Puts (now (out .entry)) at (numbers (columns i q)) (now (out .exit)) r × (r ≤ at + longestColumn * columnCount) ⌝ }
 {
-    let a = decimal::put_column(out, at, i, b',');
-    let b = decimal::put_column(out, a, q.x, b',');
-    let c = decimal::put_column(out, b, q.y, b',');
-    let d = decimal::put_column(out, c, q.minimum, b',');
-    decimal::put_column(out, d, q.capacity, b',')
+    let columns: [u32; COLUMNS] = [i, q.x, q.y, q.minimum, q.by, q.capacity];
+    let mut j = 0;
+    let mut k = at;
+    while j < COLUMNS {
+        k = decimal::put_column(out, k, columns[j], b',');
+        j += 1;
+    }
+    k
 }
 
 // Writes the line of a refusal to the front of `out`, and answers its length.

@@ -1,47 +1,62 @@
--- `reporttext::put_numbers` meets its contract: five numbers, one writer after the other.
-use borrow.Author.Needs.{needs}
+-- `reporttext::put_numbers` meets its contract: before number j is written, the first j numbers are.
 use native.Mathlib.Omega.{arith}
-use Rattle.words.specs.Put.{then}
-use Rattle.reporttext.specs.Text.{numbers}
+use borrow.Author.Needs.{needs}
+use Prim.Native.Nat.{_+_, _*_, _≤_, _-_}
+use lib.ListN.{take}
+use Rattle.words.specs.Put.{Puts, puts-length}
+use Rattle.reporttext.specs.Text.{columnCount, numbers}
+use Rattle.reporttext.specs.Short.{longestColumn}
+use Rattle.reporttext.proofs.Lines.{numbers-none, numbers-more, numbers-end}
 use Rattle.reporttext.proofs.put_numbers.Statement.{statement}
 use Rattle.reporttext.proofs.put_numbers.Tie as tie
 
-put-column-requires : tie.Need-put-column-requires
-put-column-requires c κs = search needs
+abbrev Inv-loop : tie.InvT-loop
+Inv-loop out₀ at i columns j₀ k₀ out j k = (j ≤ columnCount) × Puts out₀ at (numbers (take j columns)) out k × (k ≤ at + longestColumn * j)
 
-put-column-requires-2 : tie.Need-put-column-requires-2
-put-column-requires-2 c κs = search needs
+abbrev μ-loop : tie.MeasureT-loop
+μ-loop out₀ at i columns j₀ k₀ out j k = columnCount - j
 
-put-column-requires-3 : tie.Need-put-column-requires-3
-put-column-requires-3 c κs = search needs
+loop-holds : tie.Need-loop-holds Inv-loop μ-loop
+loop-holds c = (omega arith, numbers-none, omega arith)
 
-put-column-requires-4 : tie.Need-put-column-requires-4
-put-column-requires-4 c κs = search needs
+mul-put-column : tie.Need-mul-put-column Inv-loop μ-loop
+mul-put-column c = search needs
 
-put-column-requires-5 : tie.Need-put-column-requires-5
-put-column-requires-5 c κs = search needs
+array-read-put-column : tie.Need-array-read-put-column Inv-loop μ-loop
+array-read-put-column c = search needs
 
-same-length : tie.Need-same-length
-same-length c = search needs
+put-column-requires : tie.Need-put-column-requires Inv-loop μ-loop
+put-column-requires c κs = record { fits = omega (arith, puts-length (c .before .before .loop .inv .1)) }
 
-returns : tie.Need-returns
-unfolding numbers
-returns c =
-    let c5 = c .before .before in
-    let c4 = c5 .before .before .before .before in
-    let c3 = c4 .before .before .before .before in
-    let c2 = c3 .before .before .before .before in
-    let c1 = c2 .before .before .before .before in
-    (then (c1 .put-column .ensures .0) (then (c2 .put-column2 .ensures .0) (then (c3 .put-column3 .ensures .0) (then (c4 .put-column4 .ensures .0) (c5 .put-column5 .ensures .0)))), omega arith)
+add-j : tie.Need-add-j Inv-loop μ-loop
+add-j c = search needs
+
+loop-less : tie.Need-loop-less Inv-loop μ-loop
+loop-less c = search needs
+
+loop-again : tie.Need-loop-again Inv-loop μ-loop
+loop-again c =
+    let l = c .before .before .before .before .before .loop in
+    (omega arith, numbers-more _ (l .j) (omega arith) (l .inv .1) (c .before .before .put-column .ensures .0), omega arith)
+
+same-length : tie.Need-same-length Inv-loop μ-loop
+same-length c = puts-length (c .before .loop .inv .1)
+
+returns : tie.Need-returns Inv-loop μ-loop
+returns c = (numbers-end _ _ (c .loop-test .left) (c .before .loop .inv .1), omega arith)
 
 pub put-numbers-spec : {M : Type 1} → statement M
 put-numbers-spec =
     tie.close
     (tie.spec
+    Inv-loop
+    μ-loop
+    loop-holds
+    mul-put-column
+    array-read-put-column
     put-column-requires
-    put-column-requires-2
-    put-column-requires-3
-    put-column-requires-4
-    put-column-requires-5
+    add-j
+    loop-less
+    loop-again
     same-length
     returns)
