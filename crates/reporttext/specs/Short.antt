@@ -10,6 +10,7 @@
 use mathlib.Core.List.{List, [], _∷_, _++_}
 use Prim.Native.Nat.{ℕ, zero, suc, _+_, _*_, _^_, _≤_, _<_}
 use native.Mathlib.Omega.{arith}
+use borrow.Author.Needs.{needs}
 use lib.ListN.{length, getD, length-append}
 use Rattle.words.specs.Flat.{flat}
 use Rattle.decimal.specs.Digits.{column, column-word}
@@ -44,7 +45,7 @@ abbrev pub longestLine : ℕ
 longestLine = longestColumn * columnCount + 12
 
 columns-words : (i : ℕ) (q : QueueSize) → i < 2 ^ 32 → SizeFits q → Words (columns i q)
-columns-words i q h s = (h, (omega arith, (omega arith, (omega arith, (omega arith, (omega arith, tt))))))
+columns-words i q h s = search needs
 
 pub line-short : (i : ℕ) (q : QueueSize) → i < 2 ^ 32 → SizeFits q → length (line i q) ≤ longestLine
 unfolding line
