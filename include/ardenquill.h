@@ -34,10 +34,10 @@ extern "C" {
 
 /* The release that header and library are of; CHANGELOG.md says what each changed. MAJOR grows where a program over the
  * library has to change, MINOR where something is added, PATCH otherwise. */
-#define ARDENQUILL_VERSION_MAJOR 1
-#define ARDENQUILL_VERSION_MINOR 1
+#define ARDENQUILL_VERSION_MAJOR 2
+#define ARDENQUILL_VERSION_MINOR 0
 #define ARDENQUILL_VERSION_PATCH 0
-#define ARDENQUILL_VERSION "1.1.0"
+#define ARDENQUILL_VERSION "2.0.0"
 
 /* The most queues that a chain has, and so the slots of a chain. */
 #define ARDENQUILL_MAX_QUEUES 16
@@ -50,9 +50,9 @@ extern "C" {
 /* The bytes of the packed file of a chain of n queues, n from 1 to 16, which is what ardenquill_write writes. */
 #define ARDENQUILL_PACKED_LENGTH(n) (20 + 24 * (n))
 
-/* Room in bytes that every report fits: 34 for the first line, 67 for each of 16 queues, 27 for the last line. It
- * counts every number as long as 32 bits can be; no report fills it. */
-#define ARDENQUILL_MAX_REPORT_LENGTH 1133
+/* Room in bytes that every report fits: the first line, the lines of 16 queues and the last line. It counts every
+ * number, a queue's own too, as long as 32 bits can be; no report fills it. */
+#define ARDENQUILL_MAX_REPORT_LENGTH 1312
 
 /* The chains that are fixed in the product, by the number that ardenquill_factory is asked for. */
 enum ardenquill_factory_chain {
@@ -153,9 +153,10 @@ struct ardenquill_queue_size {
      * capacity of the chain is below its minimum and every node is fired as soon as it can from a fresh start, the one
      * nearest the sink first, the queue never holds more. */
     uint32_t minimum;
-    /* The naming count: (threshold - consume) / produce rounded up, plus consume / gcd(produce, consume). In no order
-     * of firings from a fresh start, each accepted by ardenquill_fire, has the queue's producer fired so often unless
-     * the queue has held at least minimum. It is a bound: the queue may have held that much before. */
+    /* The naming count: (threshold - consume) / produce rounded up, plus consume / gcd(produce, consume). When its
+     * producer has fired this often, the queue has held at least minimum, whatever the order of firings from a fresh
+     * start, each accepted by ardenquill_fire: watch that long. It is a bound: the queue may have held that much
+     * before. */
     uint32_t by;
     /* The capacity in force: the queue's capacity, or minimum where that is 0. */
     uint32_t capacity;
@@ -270,12 +271,11 @@ struct ardenquill_chain_answer ardenquill_factory(uint32_t number);
 struct ardenquill_analysis_answer ardenquill_analyse(struct ardenquill_chain chain);
 
 /* Writes the report on a chain file to the front of out, gives its length, and leaves all bytes of out behind it as
- * they were. The report is decimal text without a final zero byte, each line ended by one line feed:
- *     queue,x,y,minimum,capacity,margin
- * then a line for each queue with its number and its values of those names, then a line with the word busy and the
- * values of busy and cycle. For the factory chain Feed, whole:
- *     queue,x,y,minimum,capacity,margin
- *     0,4,30,10,10,0
+ * they were. The report is decimal text without a final zero byte, each line ended by one line feed: a first line that
+ * is always the same, then a line for each queue with its number and its values of the names in the first line, then a
+ * line with the word busy and the values of busy and cycle. For the factory chain Feed, whole:
+ *     queue,x,y,minimum,by,capacity,margin
+ *     0,4,30,10,4,10,0
  *     busy,8,30
  * Refuses with 1, 2, 3, 4, 5, 6, 7, 10, in this order, and then leaves all of out as it was; the places of 4 and 5
  * are offsets in the file handed in, and the place of 10 is the length of the whole report. Room of exactly that
