@@ -8,6 +8,7 @@
 #include <string.h>
 
 #include "ardenquill.h"
+#include "heading.h"
 
 /* Every struct's size and every field's offset, in bytes. */
 #define LAYOUT(SIZE, OFFSET)                          \
@@ -112,7 +113,7 @@ static const struct ardenquill_analysis permeate_sizes = {2, {{4, 15, 10, 4, 10,
 static const struct ardenquill_analysis flush_sizes = {2, {{1, 100, 64, 4, 64, 0}, {1, 800, 8, 8, 8, 0}}, 43, 800};
 
 /* The report on Feed, whole. */
-static const char feed_report[] = "queue,x,y,minimum,capacity,margin\n0,4,30,10,10,0\nbusy,8,30\n";
+static const char feed_report[] = REPORT_HEADING "0,4,30,10,4,10,0\nbusy,8,30\n";
 
 /* Permeate with capacities of its own, one above and one below the minimum. */
 static const struct short_chain roomy = {2, 5, {{4, 7, 3, 12, 0}, {3, 4, 2, 5, 0}}, {1, 1}};
@@ -167,6 +168,28 @@ static const struct ardenquill_analysis sixteen_sizes = {
      {43046721, 3932160000u, 7820, 24, 7500, -320}},
     1808355498,
     3932160000u};
+
+/* What the analysis says of the chain that widest_lines() gives. */
+static const struct ardenquill_analysis widest_lines_sizes = {
+    16,
+    {{65535, 4294770690u, 131069, 65535, 1000000, 868931},
+     {100006410, 4294770690u, 129612, 3, 1000000, 870388},
+     {100004884, 4294770690u, 131068, 65535, 1000000, 868932},
+     {100006410, 4294770690u, 131069, 65535, 1000000, 868931},
+     {100004884, 4294770690u, 131068, 65535, 1000000, 868932},
+     {100006410, 4294770690u, 131069, 65535, 1000000, 868931},
+     {100004884, 4294770690u, 131068, 65535, 1000000, 868932},
+     {100006410, 4294770690u, 131069, 65535, 1000000, 868931},
+     {100004884, 4294770690u, 131068, 65535, 1000000, 868932},
+     {100006410, 4294770690u, 131069, 65535, 1000000, 868931},
+     {100004884, 4294770690u, 131068, 65535, 1000000, 868932},
+     {100006410, 4294770690u, 131069, 65535, 1000000, 868931},
+     {100004884, 4294770690u, 131068, 65535, 1000000, 868932},
+     {1000032381, 4294770690u, 126293, 6077, 1000000, 873707},
+     {1000048840, 4294770690u, 126294, 60760, 1000000, 873706},
+     {1000065299, 4294770690u, 126295, 60761, 1000000, 873705}},
+    4200279819u,
+    4294770690u};
 
 /* A chain whose nodes all fire equally often, and one whose only node fires a thousand times as often as the source. */
 static const struct short_chain even = {2, 10, {{5, 5, 5, 0, 0}, {7, 14, 7, 0, 0}}, {1, 1}};
@@ -250,6 +273,28 @@ static struct ardenquill_chain sixteen(void)
     return chain;
 }
 
+/* A chain of 16 queues whose report has long numbers in every column: naming counts of up to 65,535, the highest that
+ * there is, beside an x and a y of up to ten digits. */
+static struct ardenquill_chain widest_lines(void)
+{
+    static const uint32_t produce_consume[ARDENQUILL_MAX_QUEUES][2] = {
+        {65535, 65534}, {64092, 42},    {65534, 65535}, {65535, 65534}, {65534, 65535}, {65535, 65534},
+        {65534, 65535}, {65535, 65534}, {65534, 65535}, {65535, 65534}, {65534, 65535}, {65535, 65534},
+        {65534, 65535}, {60759, 6076},  {60760, 60759}, {60761, 60760}};
+    struct ardenquill_chain chain;
+    memset(&chain, 0, sizeof chain);
+    chain.n = ARDENQUILL_MAX_QUEUES;
+    chain.period = 65535;
+    for (int i = 0; i < ARDENQUILL_MAX_QUEUES; i++) {
+        chain.queues[i].produce = produce_consume[i][0];
+        chain.queues[i].threshold = 65535;
+        chain.queues[i].consume = produce_consume[i][1];
+        chain.queues[i].capacity = 1000000;
+        chain.work[i] = 1;
+    }
+    return chain;
+}
+
 /* The radar chain of document 000. */
 static struct ardenquill_chain radar(void)
 {
@@ -302,18 +347,27 @@ static size_t pack(struct ardenquill_chain chain, uint8_t *file)
     return ARDENQUILL_PACKED_LENGTH(chain.n);
 }
 
+/* Puts the line that a report has for the queue of a number. Its length. */
+static size_t put_queue_line(uint32_t number, const struct ardenquill_queue_size *queue, char *text)
+{
+    return (size_t)sprintf(text, "%lu,%lu,%lu,%lu,%lu,%lu,%ld\n", (unsigned long)number, (unsigned long)queue->x,
+                           (unsigned long)queue->y, (unsigned long)queue->minimum, (unsigned long)queue->by,
+                           (unsigned long)queue->capacity, (long)queue->margin);
+}
+
+/* Puts the last line of a report. Its length. */
+static size_t put_last_line(uint32_t busy, uint32_t cycle, char *text)
+{
+    return (size_t)sprintf(text, "busy,%lu,%lu\n", (unsigned long)busy, (unsigned long)cycle);
+}
+
 /* Puts the text of an analysis as a report has it. Its length. */
 static size_t text_of(const struct ardenquill_analysis *analysis, char *text)
 {
-    int length = sprintf(text, "queue,x,y,minimum,capacity,margin\n");
-    for (uint32_t i = 0; i < analysis->n; i++) {
-        const struct ardenquill_queue_size *queue = &analysis->queues[i];
-        length += sprintf(text + length, "%lu,%lu,%lu,%lu,%lu,%ld\n", (unsigned long)i, (unsigned long)queue->x,
-                          (unsigned long)queue->y, (unsigned long)queue->minimum, (unsigned long)queue->capacity,
-                          (long)queue->margin);
-    }
-    length += sprintf(text + length, "busy,%lu,%lu\n", (unsigned long)analysis->busy, (unsigned long)analysis->cycle);
-    return (size_t)length;
+    size_t length = (size_t)sprintf(text, REPORT_HEADING);
+    for (uint32_t i = 0; i < analysis->n; i++)
+        length += put_queue_line(i, &analysis->queues[i], text + length);
+    return length + put_last_line(analysis->busy, analysis->cycle, text + length);
 }
 
 /* Whether all bytes from one offset up to another are as before the call. */
@@ -711,6 +765,7 @@ static void check_analyses(void)
     check_sizes("work in every tick", chain_of(&full), full_sizes);
     check_sizes("largest y", chain_of(&largest_y), largest_y_sizes);
     check_sizes("16 sizes", sixteen(), sixteen_sizes);
+    check_sizes("widest lines", widest_lines(), widest_lines_sizes);
 }
 
 /* Checks each number that the analysis refuses with after those of the writer. */
@@ -743,6 +798,18 @@ static void check_feed_report(void)
     for (size_t i = 0; i < sizeof feed_file / 4; i++)
         put_word(file, 4 * i, feed_file[i]);
     check_report("Feed's file", file, sizeof file, feed_report, sizeof feed_report - 1);
+}
+
+/* Checks that the header's room for a report is that of the first line, the lines of all queues and the last line, in
+ * which every number is as long as 32 bits can be. */
+static void check_report_room(void)
+{
+    const uint32_t most = UINT32_MAX;
+    const struct ardenquill_queue_size longest = {most, most, most, most, most, INT32_MIN};
+    char line[LINE_ROOM];
+    const size_t length = strlen(REPORT_HEADING) + ARDENQUILL_MAX_QUEUES * put_queue_line(most, &longest, line) +
+                          put_last_line(most, most, line);
+    check(length == ARDENQUILL_MAX_REPORT_LENGTH, "room for every report is %lu", (unsigned long)length);
 }
 
 /* Checks a file whose tables stand in the other order behind bytes that are ignored: the report is that of the
@@ -1270,6 +1337,7 @@ int main(int count, char **arguments)
     check_analysis_refusals();
     check_consume_limit();
     check_feed_report();
+    check_report_room();
     check_moved_tables();
     check_edges("Feed", chain_of(&feed));
     check_edges("Permeate", chain_of(&permeate));

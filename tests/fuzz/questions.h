@@ -3,6 +3,7 @@
 #ifndef FUZZ_QUESTIONS_H
 #define FUZZ_QUESTIONS_H
 
+#include "../heading.h"
 #include "calls.h"
 
 /* The longest deadline run that is made again tick by tick. */
@@ -83,12 +84,11 @@ static void try_report_rooms(const struct question *q, const uint8_t *text, size
 /* Checks that a report has its first line, a line for each queue and the last. */
 static void check_lines(const uint8_t *text, size_t length, uint32_t n)
 {
-    static const char heading[] = "queue,x,y,minimum,capacity,margin\n";
+    const size_t heading = strlen(REPORT_HEADING);
     uint32_t lines = 0;
     for (size_t i = 0; i < length; i++)
         lines += text[i] == '\n';
-    check(REPORT, length > sizeof heading - 1 && memcmp(text, heading, sizeof heading - 1) == 0,
-          "the report has its first line");
+    check(REPORT, length > heading && memcmp(text, REPORT_HEADING, heading) == 0, "the report has its first line");
     check(REPORT, lines == n + 2 && text[length - 1] == '\n', "the report has n + 2 lines");
 }
 
