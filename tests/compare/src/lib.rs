@@ -2,6 +2,7 @@
 //! file of a chain, the room for a report, and random run states.
 
 pub mod chains;
+mod header;
 pub mod loaded;
 pub mod packed;
 pub mod random;
@@ -11,6 +12,7 @@ pub mod states;
 pub mod steered;
 pub mod timed;
 
-/// The header's room that every report fits, 34 bytes for the first line, 67 for each of 16 queues
-/// and 27 for the last line: the library writes straight to so much, and copies to less.
-pub const MAX_REPORT_LENGTH: usize = 34 + 67 * 16 + 27;
+/// The header's room that every report fits: the library writes straight to so much, and copies to
+/// less.
+pub const MAX_REPORT_LENGTH: usize =
+    header::number_behind("\n#define ARDENQUILL_MAX_REPORT_LENGTH ");

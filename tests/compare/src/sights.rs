@@ -4,6 +4,7 @@ use crate::tally::{Line, Tally};
 use compare::rates::{parts, rates, Rate, LIMIT};
 use compare::steered::{FIRST_LARGE_X, LAST_X};
 use compare::MAX_REPORT_LENGTH;
+use std::ops::RangeInclusive;
 use yardstick::{analyse, read, AnalysisAnswer, Chain, LengthAnswer, QueueSize, MAX_QUEUES};
 
 /// What must be seen of rates that are not past their limit.
@@ -28,15 +29,18 @@ const LOADS: [&str; 8] = [
 /// What must be seen of margins.
 const MARGINS: [&str; 4] = ["< 0", "= 0", "= 0 as B is 0", "> 0"];
 
+/// The digits that naming counts must be seen with.
+const COUNT_DIGITS: RangeInclusive<u32> = 1..=5;
+
 /// The room that must be seen lent for a report.
 const ROOMS: [&str; 7] = [
     "none",
     "a byte short",
     "as needed",
     "more",
-    "1132",
-    "1133",
-    "1133 or more",
+    "one less than the longest",
+    "the longest",
+    "the longest or more",
 ];
 
 /// What must be seen of the texts of reports.
@@ -52,6 +56,7 @@ struct Chains {
     accepted_rates: Tally<&'static str>,
     loads: Tally<&'static str>,
     margins: Tally<&'static str>,
+    count_digits: Tally,
 }
 
 impl Chains {
@@ -68,11 +73,13 @@ impl Chains {
         }
     }
 
-    /// Counts n, margins and rates of an accepted chain, given what the analysis says of its queues.
+    /// Counts n, margins, naming counts and rates of an accepted chain, given what the analysis says
+    /// of its queues.
     fn count_accepted(&mut self, chain: &Chain, sizes: &[QueueSize]) {
         self.accepted.count(chain.n);
         for (queue, size) in chain.queues.iter().zip(sizes) {
             self.margins.count(margin(queue.capacity, size));
+            self.count_digits.count(size.by.ilog10() + 1);
         }
         let rates = [
             sizes.iter().any(|size| size.y == u32::MAX),
@@ -134,6 +141,8 @@ impl Chains {
                 .line(name("rates of those accepted"), ACCEPTED_RATES),
             self.loads.line(name("loads"), LOADS),
             self.margins.line(name("margins"), MARGINS),
+            self.count_digits
+                .line(name("digits of naming counts"), COUNT_DIGITS),
         ]
     }
 }

@@ -5,11 +5,11 @@ use crate::chain::{Refusal, MAX_QUEUES};
 use crate::file::{read, room, LengthAnswer};
 
 /// The first line.
-const HEAD: &[u8] = b"queue,x,y,minimum,capacity,margin\n";
+const HEAD: &[u8] = b"queue,x,y,minimum,by,capacity,margin\n";
 
-/// The most bytes of a queue's line: two digits, five numbers of ten, a minus sign, five commas, a
+/// The most bytes of a queue's line: two digits, six numbers of ten, a minus sign, six commas, a
 /// line feed.
-const QUEUE_LINE: usize = 2 + 5 * 10 + 1 + 5 + 1;
+const QUEUE_LINE: usize = 2 + 6 * 10 + 1 + 6 + 1;
 
 /// The most bytes of the last line: a word, two numbers of ten digits, two commas, a line feed.
 const BUSY_LINE: usize = 4 + 2 * 10 + 2 + 1;
@@ -52,6 +52,7 @@ fn text_of(analysis: &Analysis) -> Text {
         text.put_number(queue.x, b',');
         text.put_number(queue.y, b',');
         text.put_number(queue.minimum, b',');
+        text.put_number(queue.by, b',');
         text.put_number(queue.capacity, b',');
         if queue.margin < 0 {
             text.put(b"-");
