@@ -1,4 +1,7 @@
--- Texts that write a number (01, Report program: "writes decimal text, a minus sign before a negative margin"), said without `decimal` and `integer`.
+-- Texts that write a number (01, Report program: "writes decimal text, a minus sign before a negative margin"), said without `decimal` and `integer`; and which bytes the words
+-- of a report are.
+--   text-none, text-more
+--                      the bytes `text s` of a string s are the codes of its characters, in order
 --   Writes t n         the bytes t write n: one digit d, or what writes the tens, which are not 0, and one digit behind it
 --   WritesSigned t z   the bytes t write the signed number z: as its size, with a minus sign before a negative one
 --   writes-same, signed-same
@@ -12,7 +15,16 @@ use Prim.Native.Nat.{ℕ, suc, _+_, _*_, _/_, _%_, _<_}
 use native.Mathlib.Nat.{mod-eq-of-lt}
 use native.Mathlib.Omega.{arith}
 use lib.IntN.{ℤ, pos, negsuc}
-use Rattle.ardenquill.specs.Reports.{decimal, by-digits, integer}
+use Prim.Native.Char.{Char, code}
+use Prim.Native.String.{String, [] as none, _∷_ as _then_}
+use Rattle.ardenquill.specs.Reports.{decimal, by-digits, integer, text}
+
+-- a byte for each character of a string
+pub text-none : text none ≡ []
+text-none = refl
+
+pub text-more : (c : Char) (s : String) → text (c then s) ≡ code c ∷ text s
+text-more c s = refl
 
 -- "decimal text": '0' is 48, and a digit behind a text makes its number ten times as much, and itself more
 pub data Writes : List ℕ → ℕ → Type 0 where
