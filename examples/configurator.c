@@ -45,9 +45,9 @@ static uint32_t choose_threshold(struct ardenquill_chain trial)
             print_refusal(answer.number, answer.place);
             continue;
         }
-        uint32_t minimum = answer.analysis.queues[0].minimum;
-        printf("minimum %lu\n", (unsigned long)minimum);
-        if (minimum <= ROOM)
+        struct ardenquill_queue_size queue = answer.analysis.queues[0];
+        printf("minimum %lu, needed within %lu firings\n", (unsigned long)queue.minimum, (unsigned long)queue.by);
+        if (queue.minimum <= ROOM)
             chosen = threshold;
     }
     return chosen;
