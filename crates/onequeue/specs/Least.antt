@@ -28,13 +28,15 @@ least s p τ c = record { minimum = residue s τ (gcd p c) + p; by = ceil (τ - 
 -- no fewer firings than q bring the contents from s to τ - c; said with no minus
 pub record Reaches (s p τ c q : ℕ) : Type 0 where
   pub enough : τ ≤ s + p * q + c
-  pub least : (m : ℕ) → τ ≤ s + p * m + c → q ≤ m
+  pub fewest : (m : ℕ) → τ ≤ s + p * m + c → q ≤ m
 
+-- what is missing from s to τ - c, over p rounded up, is so many
 pub reaches : (s p τ c : ℕ) → 0 < p → Reaches s p τ c (ceil (τ - c - s) p)
-reaches s p τ c hp = record { enough = omega (arith, ceil-above (τ - c - s) p hp); least = λ m l. ceil-least (τ - c - s) p m (omega arith) }
+reaches s p τ c hp = record { enough = omega (arith, ceil-above (τ - c - s) p hp); fewest = λ m l. ceil-least (τ - c - s) p m (omega arith) }
 
+-- and no other number is
 reaches-unique : {s p τ c q m : ℕ} → Reaches s p τ c q → Reaches s p τ c m → q ≡ m
-reaches-unique {q = q} {m} a b = le-antisymm (a .least m (b .enough)) (b .least q (a .enough))
+reaches-unique {q = q} {m} a b = le-antisymm (a .fewest m (b .enough)) (b .fewest q (a .enough))
 
 -- the pair m in words, with no division: what is left below τ, the firings that come within c of τ, and what g leaves of c
 pub record IsLeast (s p τ c : ℕ) (m : Shown) : Type 0 where

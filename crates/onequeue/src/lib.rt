@@ -14,7 +14,7 @@ pub struct Row {
     pub share: u32,
 }
 
-// A queue's minimum, and its naming count: the queue has held the minimum by the time that its producer has fired so often.
+// A queue's minimum, and its naming count: when its producer has fired so often, the queue has held at least the minimum.
 pub struct Shown {
     pub minimum: u32,
     pub by: u32,

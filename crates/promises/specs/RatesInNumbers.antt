@@ -285,7 +285,7 @@ module _ (c : Chain) (ok : Accepts c) where
         greatest = gcd-is (pOf c j) (cOf c j);
         parts = own .whole;
         enough = omega (arith, own .near .enough);
-        least = λ m h. own .near .least m (omega arith);
+        least = λ m h. own .near .fewest m (omega arith);
         is = by-is c accepted j l ∙ own .by;
       }
 

@@ -4,7 +4,7 @@
 --   capacityOf q, marginOf q the capacity in force, and how much that is above the minimum
 --   margin-unwritten, -written
 --                            the margin where the file says 0, and where it says a capacity
---   rowBy q, Parted, row-known, least-parted
+--   rowBy q, Parted, row-known
 --                            the numbers that the queue's code is handed
 --   sizeBy q x y             one queue's line of the analysis, its consumer having the rate x in y
 --   sizeOf c i               queue i's
@@ -87,11 +87,6 @@ row-known s = record { produce = s .produce; threshold = s .threshold; consume =
 pub record Parted (q : Queue) (row : Row) : Type 0 where
   pub sound : SoundRow q
   pub parts : row ≡ rowBy q
-
--- so the pair of these numbers is the queue's
-pub least-parted : {q : Queue} {row : Row} → Parted q row → least 0 (row .produce) (row .threshold) (row .consume) ≡ leastOf q
-unfolding rowBy
-least-parted p = ap (λ (r : Row). least 0 (r .produce) (r .threshold) (r .consume)) (p .parts)
 
 -- one queue's line, with its consumer's rate
 unfoldable pub sizeBy : Queue → ℕ → ℕ → QueueSize

@@ -1,5 +1,5 @@
 -- `sizing::room_of` meets its contract: the capacity and the minimum are the queue's.
-use mathlib.Core.Path.{_≡_, ap, _∙_}
+use mathlib.Core.Path.{_≡_}
 use Prim.Native.Nat.{ℕ}
 use lib.Dec.{ltb}
 use borrow.Author.Needs.{needs}
@@ -8,20 +8,18 @@ use Rattle.onequeue.specs.Least.{least}
 use Rattle.onequeue.specs.Capacity.{capacity}
 use Rattle.onequeue.specs.declared.Row.{Row}
 use Rattle.onequeue.specs.declared.Shown.{Shown}
-use Rattle.sizing.specs.Sizes.{row-known, Parted, leastOf, capacityOf, least-parted}
+use Rattle.sizing.specs.Sizes.{Parted}
 use Rattle.sizing.specs.Plan.{roomBy}
+use Rattle.sizing.proofs.Pair.{known, least-same, capacity-same}
 use Rattle.sizing.proofs.room_of.Statement.{statement}
 use Rattle.sizing.proofs.room_of.Tie as tie
 
 room : {q : Queue} {row : Row} → Parted q row → {m : Shown} {k : ℕ} → m ≡ least 0 (row .produce) (row .threshold) (row .consume) → k ≡ capacity (q .capacity) (m .minimum)
     → record { capacity = k; short = ltb k (m .minimum) } ≡ roomBy q
-room {q} p {m} {k} em ek =
-    let same : m ≡ leastOf q = em ∙ least-parted p in
-    let most : k ≡ capacityOf q = ek ∙ ap (λ (n : Shown). capacity (q .capacity) (n .minimum)) same in
-    λ i. record { capacity = most i; short = ltb (most i) (same i .minimum) }
+room p em ek = λ i. record { capacity = capacity-same p em ek i; short = ltb (capacity-same p em ek i) (least-same p em i .minimum) }
 
 least-requires : tie.Need-least-requires
-least-requires c κs = rw (c .pre .parts) (row-known (c .pre .sound))
+least-requires c κs = known (c .pre)
 
 capacity-requires : tie.Need-capacity-requires
 capacity-requires c κs = search needs
