@@ -806,7 +806,7 @@ static void check_report_room(void)
 {
     const uint32_t most = UINT32_MAX;
     const struct ardenquill_queue_size longest = {most, most, most, most, most, INT32_MIN};
-    char line[LINE_ROOM];
+    char line[REPORT_ROOM];
     const size_t length = strlen(REPORT_HEADING) + ARDENQUILL_MAX_QUEUES * put_queue_line(most, &longest, line) +
                           put_last_line(most, most, line);
     check(length == ARDENQUILL_MAX_REPORT_LENGTH, "room for every report is %lu", (unsigned long)length);

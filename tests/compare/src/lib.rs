@@ -16,3 +16,5 @@ pub mod timed;
 /// less.
 pub const MAX_REPORT_LENGTH: usize =
     header::number_behind("\n#define ARDENQUILL_MAX_REPORT_LENGTH ");
+
+const _: () = assert!(MAX_REPORT_LENGTH == yardstick::LONGEST_REPORT);

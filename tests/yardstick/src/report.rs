@@ -7,15 +7,27 @@ use crate::file::{read, room, LengthAnswer};
 /// The first line.
 const HEAD: &[u8] = b"queue,x,y,minimum,by,capacity,margin\n";
 
-/// The most bytes of a queue's line: two digits, six numbers of ten, a minus sign, six commas, a
-/// line feed.
-const QUEUE_LINE: usize = 2 + 6 * 10 + 1 + 6 + 1;
+/// The most bytes of a number and the byte behind it.
+const COLUMN: usize = 10 + 1;
 
-/// The most bytes of the last line: a word, two numbers of ten digits, two commas, a line feed.
-const BUSY_LINE: usize = 4 + 2 * 10 + 2 + 1;
+/// The most bytes of a queue's line: the columns that the first line names, and a minus sign.
+const QUEUE_LINE: usize = COLUMN * (commas(HEAD) + 1) + 1;
+
+/// The most bytes of the last line: a word with its comma, and two numbers.
+const BUSY_LINE: usize = 5 + 2 * COLUMN;
 
 /// Bytes that every report has room in.
-const LONGEST_REPORT: usize = HEAD.len() + QUEUE_LINE * MAX_QUEUES + BUSY_LINE;
+pub const LONGEST_REPORT: usize = HEAD.len() + QUEUE_LINE * MAX_QUEUES + BUSY_LINE;
+
+/// How many commas a text has.
+const fn commas(text: &[u8]) -> usize {
+    let (mut at, mut count) = (0, 0);
+    while at < text.len() {
+        count += (text[at] == b',') as usize;
+        at += 1;
+    }
+    count
+}
 
 /// A text that is being written.
 struct Text {
