@@ -46,7 +46,7 @@ static uint32_t choose_threshold(struct ardenquill_chain trial)
             continue;
         }
         struct ardenquill_queue_size queue = answer.analysis.queues[0];
-        printf("minimum %lu, needed within %lu firings\n", (unsigned long)queue.minimum, (unsigned long)queue.by);
+        printf("minimum %lu, watch %lu firings of the source\n", (unsigned long)queue.minimum, (unsigned long)queue.by);
         if (queue.minimum <= ROOM)
             chosen = threshold;
     }
