@@ -1,4 +1,4 @@
--- Chain files and reports as literal bytes: what is read from them and written to them.
+-- Chain files as literal bytes, and reports as strings: what is read from them and written to them.
 --   feedFile, permeateFile, flushFile
 --                            the packed files of 01's factory chains
 --   mixed, mixedPast, mixedRows, mixedNodes, mixedFile

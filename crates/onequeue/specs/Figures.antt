@@ -14,8 +14,8 @@ use Rattle.onequeue.specs.declared.Shown.{Shown}
 abbrev shown : ℕ → ℕ → Shown
 shown b k = record { minimum = b; by = k }
 
--- Feed's queue, which is Permeate's first, too; Permeate's second; Flush's two; Corner Turn and Azimuth FFT of 000's Example 1, both 128 · 256; and the
--- largest that the ranges allow
+-- Feed's queue, which is Permeate's first, too; Permeate's second; Flush's two; Corner Turn and Azimuth FFT of 000's Example 1, whose minimum is 128 · 256
+-- both times; and the largest that the ranges allow
 pub least-figures :
     _≡_ {A = List Shown}
     (least 0 4 7 3 ∷ least 0 3 4 2 ∷ least 0 16 64 16 ∷ least 0 1 8 8 ∷ least 0 256 32768 16384 ∷ least 0 32768 128 128 ∷ least 0 65535 65535 65534 ∷ [])

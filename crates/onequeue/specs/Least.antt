@@ -1,7 +1,7 @@
 -- The minimum b of a queue, with its naming count.
 --   s, p, τ, c          the contents at the start, 0 in a chain of 01; produce, threshold and consume
 --   least s p τ c       both: the minimum is the largest content below τ, plus p; the naming count says how many firings of the producer show it
---   Reaches s p τ c q   q firings of the producer, and no fewer, bring the contents from s to τ - c; reaches: there is such a q
+--   Reaches s p τ c q   q firings of the producer, and no fewer, bring the contents from s to τ - c or more; reaches: there is such a q
 --   IsLeast s p τ c m   both in words: the minimum is r + p for the r that `Largest` describes, the naming count q + w for the q that `Reaches` does and
 --                       the w with gcd p c * w = c
 --   least-is            that is so of `least s p τ c`, and of no other pair
@@ -20,12 +20,12 @@ use Rattle.onequeue.specs.Residue.{residue, Largest, residue-largest, re
 use Rattle.onequeue.specs.declared.Shown.{Shown}
 
 -- 01's "minimum b of a queue: with g = gcd(p,c), the largest multiple of g below τ, plus p", and its "naming count of demand 3: (τ−c)/p rounded up,
--- plus c/g"; c ≤ τ, so at s = 0 the minus is exact, and a start past τ - c makes the first part 0
+-- plus c/g"; c ≤ τ, so at s = 0 the minus is exact, and a start past τ - c makes what is rounded up 0
 unfoldable pub least : ℕ → ℕ → ℕ → ℕ → Shown
 unfolding residue ceil gcd
 least s p τ c = record { minimum = residue s τ (gcd p c) + p; by = ceil (τ - c - s) p + c / gcd p c }
 
--- no fewer firings than q bring the contents from s to τ - c; said with no minus
+-- no fewer firings than q bring the contents from s to τ - c or more; said with no minus
 pub record Reaches (s p τ c q : ℕ) : Type 0 where
   pub enough : τ ≤ s + p * q + c
   pub fewest : (m : ℕ) → τ ≤ s + p * m + c → q ≤ m

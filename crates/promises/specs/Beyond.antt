@@ -13,10 +13,10 @@
 --   filled, reached          where nodes fire at once, a producer that has fired the naming count has filled its queue to exactly the minimum
 --   any-order, run-any-order permitted orders of equally many source firings that leave only the source to fire end in one state, the immediate run's
 --   feed, feed-line          the factory chain 0, whose queue has the minimum 10, by 4 firings of the source
---   three-short              no smaller naming count would do: an accepted list with 3 firings of the source, in which the queue never holds 10
---   six-full                 no smaller minimum would do: an accepted list in which nodes fire at once, after which the queue holds 10
+--   three, three-short       of Feed no smaller naming count would do: an accepted list with 3 firings of the source, in which the queue never holds 10
+--   six, six-full            nor a smaller minimum: an accepted list in which nodes fire at once, after which the queue holds 10
 --   permeate, permeate-line  the factory chain 1, whose queue 1 has the minimum 6, by 3 firings of its producer
---   two-full                 the naming count is a bound: an accepted list with 2 firings of that producer, after which the queue holds 6
+--   two, two-full            the naming count is a bound: an accepted list with 2 firings of that producer, after which the queue holds 6
 --   slow, slow-cycle         an accepted chain with a cycle longer than any immediate run
 use mathlib.Core.Path.{_≡_, refl, sym, ap, subst, _∙_}
 use mathlib.Core.Logic.{_↔_}

@@ -13,7 +13,7 @@ use sizing::QueueSize;
 // Bytes enough for every report: the first line, a line for each of 16 queues, and the last line.
 pub const LONGEST_REPORT: usize = HEADING_LENGTH + 16 * LONGEST_LINE + LONGEST_BUSY_LINE;
 
-// Bytes enough for the line of every refusal.
+// Bytes enough for the line of every refusal: the word with its comma, and two numbers.
 pub const LONGEST_REFUSAL: usize = 8 + 2 * LONGEST_COLUMN;
 
 // The length in bytes of a report's first line.
@@ -31,7 +31,7 @@ const LONGEST_COLUMN: usize = 11;
 // Bytes enough for every queue's line: its numbers, the margin with its sign, and the line feed.
 const LONGEST_LINE: usize = COLUMNS * LONGEST_COLUMN + 12;
 
-// Bytes enough for every last line.
+// Bytes enough for every last line: the word with its comma, and two numbers.
 const LONGEST_BUSY_LINE: usize = 5 + 2 * LONGEST_COLUMN;
 
 // Whether a text begins with a report's first line.
