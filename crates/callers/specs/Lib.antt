@@ -1,3 +1,4 @@
 pub mod Replayed
 pub mod Ran
 pub mod ReadBack
+pub mod Layouts
