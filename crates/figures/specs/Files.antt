@@ -144,8 +144,9 @@ reports =
     -- two of these as analyses
     ∷ (analyse short, sizesAre 3 (3 ∷ 200 ∷ 22 ∷ 5 ∷ 30 ∷ 0 ∷ 8 ∷ 5 ∷ 200 ∷ 26 ∷ 7 ∷ 9 ∷ 1 ∷ 17 ∷ 10 ∷ 1400 ∷ 38 ∷ 13 ∷ 1000 ∷ 0 ∷ 962 ∷ []) 187 1400)
     ∷ (analyse full, sizesAre 16 (repeated 16 (1 ∷ 16 ∷ 1 ∷ 1 ∷ 1 ∷ 0 ∷ 0 ∷ [])) 16 16)
-    -- "a refusal prints only the line `refused,number,place`"
-    ∷ (refusalLine 4 28 (replicate 13 7), 0 ∷ 0 ∷ 13 ∷ text "refused,4,28\n")
+    -- "a refusal prints only the line `refused,number,place`": its bytes, and those of the last line of Feed's report
+    ∷ (refusalLine 4 28 (replicate 13 7), 0 ∷ 0 ∷ 13 ∷ 114 ∷ 101 ∷ 102 ∷ 117 ∷ 115 ∷ 101 ∷ 100 ∷ 44 ∷ 52 ∷ 44 ∷ 50 ∷ 56 ∷ 10 ∷ [])
+    ∷ (report feedFile (replicate 64 7), 0 ∷ 0 ∷ 64 ∷ (heading ++ (text "0,4,30,10,4,10,0\n" ++ (98 ∷ 117 ∷ 115 ∷ 121 ∷ 44 ∷ 56 ∷ 44 ∷ 51 ∷ 48 ∷ 10 ∷ []))))
     ∷ (refusalLine 4 28 (replicate 12 7), 10 ∷ 13 ∷ 0 ∷ replicate 12 7)
     ∷ (refusalLine 0 1000 (replicate 16 7), 0 ∷ 0 ∷ 15 ∷ (text "refused,0,1000\n" ++ (7 ∷ [])))
     ∷ (refusalLine 4294967295 4294967295 (replicate 30 7), 0 ∷ 0 ∷ 30 ∷ text "refused,4294967295,4294967295\n")
