@@ -750,6 +750,26 @@ static void check_write_refusals(void)
     check_write_refused("write consume above threshold, y too large", chain, ARDENQUILL_BAD_CONSUME, 328);
 }
 
+/* Checks that the writer and the analysis look at all 32 bits of every word of a chain: with the highest bit set, or with
+ * the lowest that no range reaches, each is refused at its place. With 16 queues the words of the record are those of the
+ * packed file but for the last three of its header. */
+static void check_every_word(void)
+{
+    static const int bits[] = {20, 31};
+    for (uint32_t word = 0; word < sizeof(struct ardenquill_chain) / sizeof(uint32_t); word++)
+        for (size_t i = 0; i < sizeof bits / sizeof bits[0]; i++) {
+            const uint32_t place = word < 2 ? 4 * word : 4 * word + 12;
+            struct ardenquill_chain chain = told_apart();
+            uint32_t words[sizeof chain / sizeof(uint32_t)];
+            char name[64];
+            memcpy(words, &chain, sizeof chain);
+            words[word] |= (uint32_t)1 << bits[i];
+            memcpy(&chain, words, sizeof chain);
+            sprintf(name, "write with bit %d in word %lu", bits[i], (unsigned long)word);
+            check_write_refused(name, chain, word == 0 ? ARDENQUILL_BAD_COUNT : ARDENQUILL_BAD_FIELD, place);
+        }
+}
+
 /* Checks the numbers behind the last factory chain. */
 static void check_factory_refusals(void)
 {
@@ -1332,6 +1352,7 @@ int main(int count, char **arguments)
     check_round_trip("16 queues", told_apart());
     check_read_refusals();
     check_write_refusals();
+    check_every_word();
     check_factory_refusals();
     check_analyses();
     check_analysis_refusals();
