@@ -17,4 +17,8 @@ pub mod timed;
 pub const MAX_REPORT_LENGTH: usize =
     header::number_behind("\n#define ARDENQUILL_MAX_REPORT_LENGTH ");
 
-const _: () = assert!(MAX_REPORT_LENGTH == yardstick::LONGEST_REPORT);
+// The header counts a queue's number, too, with the ten digits that 32 bits can have.
+const _: () = assert!(
+    MAX_REPORT_LENGTH
+        == yardstick::LONGEST_REPORT + (10 - yardstick::QUEUE_DIGITS) * yardstick::MAX_QUEUES
+);

@@ -24,7 +24,7 @@ pub use deadline_run::deadline_run;
 pub use factory::factory;
 pub use file::{read, write, ChainAnswer, LengthAnswer, MAX_FILE};
 pub use immediate::{immediate, MAX_FIRINGS};
-pub use report::{report, LONGEST_REPORT};
+pub use report::{report, LONGEST_REPORT, QUEUE_DIGITS};
 pub use run::{fire, fresh, Run, RunAnswer};
 pub use tick::{
     tick, tick_lent, OutcomeAnswer, OutcomeRun, CLEAN, MAX_TICKS, NO_DEADLINE, OVERFLOWED,

@@ -10,8 +10,12 @@ const HEAD: &[u8] = b"queue,x,y,minimum,by,capacity,margin\n";
 /// The most bytes of a number and the byte behind it.
 const COLUMN: usize = 10 + 1;
 
-/// The most bytes of a queue's line: the columns that the first line names, and a minus sign.
-const QUEUE_LINE: usize = COLUMN * (commas(HEAD) + 1) + 1;
+/// The most digits of a queue's number.
+pub const QUEUE_DIGITS: usize = 2;
+
+/// The most bytes of a queue's line: its number and a comma, the other columns that the first line
+/// names, and a minus sign.
+const QUEUE_LINE: usize = QUEUE_DIGITS + 1 + COLUMN * commas(HEAD) + 1;
 
 /// The most bytes of the last line: a word with its comma, and two numbers.
 const BUSY_LINE: usize = 5 + 2 * COLUMN;
