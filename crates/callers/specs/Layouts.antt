@@ -10,7 +10,7 @@
 --   chain-answer-lies, length-answer-lies, analysis-answer-lies, run-answer-lies, deadline-answer-lies, outcome-lies, outcome-run-lies
 --                  so are the answers
 use mathlib.Core.Path.{_≡_, refl, ap, ap₂}
-use mathlib.Core.List.{List, [], _∷_, _++_, map}
+use mathlib.Core.List.{List, [], _∷_, _++_, map, map-map}
 use Prim.Native.Nat.{ℕ}
 use mir.Syntax.{w32, w64}
 use mir.Val.{Val, vint, vstruct, ofZ, ofList}
@@ -76,13 +76,9 @@ analysis a = val analysisType analysisLaws a
 abbrev pub run : Run → Val
 run s = val runType runLaws s
 
--- the elements of an array are made into values in one step or in two
-twice : {A B C : Type 0} (f : B → C) (g : A → B) (xs : List A) → map f (map g xs) ≡ map (λ x. f (g x)) xs
-twice f g [] = refl
-twice {C = C} f g (x ∷ xs) = ap (λ (ys : List C). f (g x) ∷ ys) (twice f g xs)
-
+-- numbers of an array are made into values as they are
 words : (xs : List ℕ) → map word (map (λ (n : ℕ). n) xs) ≡ map word xs
-words xs = twice word (λ (n : ℕ). n) xs
+words xs = map-map word (λ (n : ℕ). n) xs
 
 -- "A queue row has five words: produce p, threshold τ, consume c, capacity B, one reserved word", and so has its record
 pub row-lies : (q : Queue) → row q ≡ parts (map word (q .produce ∷ q .threshold ∷ q .consume ∷ q .capacity ∷ q .reserved ∷ []))
@@ -90,7 +86,7 @@ row-lies q = refl
 
 -- struct ardenquill_chain
 pub chain-lies : (c : Chain) → chain c ≡ parts (word (c .n) ∷ word (c .period) ∷ parts (map row (c .queues)) ∷ parts (map word (c .work)) ∷ [])
-chain-lies c = ap₂ (λ (us ws : List Val). parts (word (c .n) ∷ word (c .period) ∷ parts us ∷ parts ws ∷ [])) (twice _ _ (c .queues)) (twice _ _ (c .work))
+chain-lies c = ap₂ (λ (us ws : List Val). parts (word (c .n) ∷ word (c .period) ∷ parts us ∷ parts ws ∷ [])) (map-map _ _ (c .queues)) (map-map _ _ (c .work))
 
 -- struct ardenquill_queue_size: the naming count has 32 bits, too, and stands behind the minimum
 pub line-lies : (q : QueueSize) → line q ≡ parts (map word (q .x ∷ q .y ∷ q .minimum ∷ q .by ∷ q .capacity ∷ ofZ w32 (q .margin) ∷ []))
@@ -98,7 +94,7 @@ line-lies q = refl
 
 -- struct ardenquill_analysis
 pub analysis-lies : (a : Analysis) → analysis a ≡ parts (word (a .n) ∷ parts (map line (a .queues)) ∷ word (a .busy) ∷ word (a .cycle) ∷ [])
-analysis-lies a = ap (λ (us : List Val). parts (word (a .n) ∷ parts us ∷ word (a .busy) ∷ word (a .cycle) ∷ [])) (twice _ _ (a .queues))
+analysis-lies a = ap (λ (us : List Val). parts (word (a .n) ∷ parts us ∷ word (a .busy) ∷ word (a .cycle) ∷ [])) (map-map _ _ (a .queues))
 
 -- struct ardenquill_run
 pub run-lies : (s : Run) → run s ≡ parts (word (s .clock) ∷ parts (map word (s .counts)) ∷ parts (map word (s .held)) ∷ parts (map word (s .done)) ∷ [])
