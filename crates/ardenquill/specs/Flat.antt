@@ -13,7 +13,7 @@ use lib.Dec.{T, eqb}
 use Rattle.chain.specs.Tests.{equal-true, and-true}
 use Rattle.chain.specs.declared.Chain.{Chain}
 use Rattle.state.specs.declared.Run.{Run}
-use Rattle.past.specs.Runs.{Whole}
+use Rattle.slots.specs.Runs.{Whole}
 use Rattle.instants.specs.Steps.{kindOf, tickOf, atOf}
 use Rattle.instants.specs.Checks.{outcomeOf, tickAnswer}
 use Rattle.instants.specs.Refusals.{tick-refused}

@@ -5,7 +5,7 @@ unfoldable pub use Rattle.events.specs.Events.{puts, takes, contents, Allowed, 
 pub use Rattle.events.specs.Peak.{room, peak-law, peak-always}
 pub use Rattle.events.specs.Naming.{naming-law}
 unfoldable pub use Rattle.history.specs.History.{times, after, EachFiring}
-pub use Rattle.history.specs.History.{Permitted, Prompt, AtSome, at-some, HasHeld, HeldExactly, after-append, each-append, each-before}
+pub use Rattle.history.specs.History.{Entry, nodes, Permitted, Prompt, AtSome, at-some, HasHeld, HeldExactly, after-append, each-append, each-before}
 unfoldable pub use Rattle.history.specs.Queues.{seen, events}
 pub use Rattle.history.specs.Queues.{seen-cases, times-again, times-other, events-append, puts-times, takes-times, held-contents, queue-allowed, queue-settled}
 pub use Rattle.history.specs.Laws.{fresh-slots, fresh-contents, fresh-allowed, fresh-settled, counted, balance, naming, peak-end, peak, reached, counted-from}

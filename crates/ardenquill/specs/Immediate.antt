@@ -13,4 +13,4 @@ pub use Rattle.immediate.specs.Checks.{most, lengthTest, immediateChecks, First
 pub use Rattle.immediate.specs.Checks.{length-only, immediate-parts, immediate-9, immediate-earlier, immediateNumbers}
 pub use Rattle.immediate.specs.Checks.{immediate-numbered, immediate-accepts, immediate-ran, immediate-refused}
 unfoldable pub use Rattle.immediate.specs.Checks.{lengthCheck, immediateRefusal, immediateAnswer}
-pub use Rattle.immediate.specs.Past.{F-alike, length-alike, refusal-alike, reached-alike, calm-alike, state-alike, immediate-alike}
+pub use Rattle.immediate.specs.Slots.{F-alike, length-alike, refusal-alike, reached-alike, calm-alike, state-alike, immediate-alike}

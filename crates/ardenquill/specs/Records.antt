@@ -9,7 +9,7 @@ pub use Rattle.sizing.specs.declared.Analysis.{Analysis}
 pub use Rattle.sizing.specs.declared.AnalysisAnswer.{AnalysisAnswer}
 pub use Rattle.state.specs.declared.Run.{Run}
 pub use Rattle.state.specs.declared.RunAnswer.{RunAnswer}
-pub use Rattle.deadline.specs.declared.DeadlineAnswer.{DeadlineAnswer}
+pub use Rattle.dates.specs.declared.DeadlineAnswer.{DeadlineAnswer}
 pub use Rattle.instants.specs.declared.Outcome.{Outcome}
 pub use Rattle.instants.specs.declared.Outcome.the-variants.{Clean, Overflowed, NoDeadline}
 pub use Rattle.instants.specs.declared.Ticked.{Ticked}

@@ -42,9 +42,9 @@ use Rattle.state.proofs.Run.Laws.{the-laws as runLaws}
 use Rattle.state.specs.declared.RunAnswer.{RunAnswer}
 use Rattle.state.proofs.RunAnswer.{the-type as runAnswerType}
 use Rattle.state.proofs.RunAnswer.Laws.{the-laws as runAnswerLaws}
-use Rattle.deadline.specs.declared.DeadlineAnswer.{DeadlineAnswer}
-use Rattle.deadline.proofs.DeadlineAnswer.{the-type as deadlineAnswerType}
-use Rattle.deadline.proofs.DeadlineAnswer.Laws.{the-laws as deadlineAnswerLaws}
+use Rattle.dates.specs.declared.DeadlineAnswer.{DeadlineAnswer}
+use Rattle.dates.proofs.DeadlineAnswer.{the-type as deadlineAnswerType}
+use Rattle.dates.proofs.DeadlineAnswer.Laws.{the-laws as deadlineAnswerLaws}
 use Rattle.ardenquill.specs.declared.OutcomeAnswer.{OutcomeAnswer}
 use Rattle.ardenquill.proofs.OutcomeAnswer.{the-type as outcomeType}
 use Rattle.ardenquill.proofs.OutcomeAnswer.Laws.{the-laws as outcomeLaws}

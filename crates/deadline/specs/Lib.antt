@@ -1,3 +1,2 @@
-pub mod Question
-pub mod Dues
+pub mod Deadline
 pub mod Figures

@@ -6,7 +6,7 @@
 --   firing l i             all three
 --   Shows l c s            the flow l has the numbers of the chain c and of the state s
 --   shows-fired            a firing of the flow is the firing of what it shows
---   Ready l i              what the code of a firing asks: l shows a state in which manual firing accepts it
+--   Ready l i              what the code of a firing asks: l shows a sound chain and a state in which N_i may fire
 --   Puts l i, Takes l i    what the code of its steps asks: the sum fits, and there is enough to take
 --   ready-node, -count, -puts, -takes
 --                          which such a flow gives
@@ -22,12 +22,12 @@ use lib.ListN.{length, getD, set, length-set}
 use lib.Seq.{getD-set-same, getD-set-other}
 use borrow.Author.Tests.{lt-ltb, le-ltb}
 use Rattle.chain.specs.Record.{rowOf}
+use Rattle.chain.specs.Sound.{Sound}
 use Rattle.chain.specs.declared.Chain.{Chain}
 use Rattle.sizing.specs.Sizes.{capacity-most}
 use Rattle.sizing.specs.Checks.{limit}
 use Rattle.state.specs.State.{countAt, heldAt}
-use Rattle.state.specs.Fired.{fired, over-enough, count-fired, count-other, held-output, held-input, held-other, held-sink, counts-length, holds-length}
-use Rattle.state.specs.Fire.{Firing}
+use Rattle.state.specs.Fired.{fired, Over, May, over-enough, count-fired, count-other, held-output, held-input, held-other, held-sink, counts-length, holds-length}
 use Rattle.state.specs.declared.Run.{Run}
 
 -- where each number stands: p, τ and c of queue j, N_j's count, what queue j holds, and n; word 81 is not used, so that 65 + i is n's place for no node i
@@ -131,19 +131,20 @@ module _ (l : List ℕ) (i : ℕ) where
   unfolding firing
   firing-count f m = take-other _ i (48 + i) (λ j e z. omega arith) ∙ put-other (counted l i) i (48 + i) (λ e. omega arith) ∙ getD-set-same l (48 + i) _ 0 (omega arith)
 
--- what the code of a firing asks: the flow shows a state in which manual firing accepts the firing; that the count is a word is said here, since
--- the words of a lent array come with no range
+-- what the code of a firing asks: the flow shows a sound chain and a state in which N_i may fire, whether or not the state passes 17; that the count
+-- is a word is said here, since the words of a lent array come with no range
 pub record Ready (l : List ℕ) (i : ℕ) : Type 0 where
   pub chain : Chain
   pub run : Run
   pub shows : Shows l chain run
-  pub firing : Firing chain run i
+  pub sound : Sound chain
+  pub may : May chain run i
   pub word : countAt run i ≤ limit
 
 -- a firing of the flow is the firing of what it shows
-module _ {l : List ℕ} {c : Chain} {s : Run} (x : Shows l c s) {i : ℕ} (k : Firing c s i) where
+module _ {l : List ℕ} {c : Chain} {s : Run} (x : Shows l c s) {i : ℕ} (m : i ≤ c .n) where
   node : i ≤ 16
-  node = omega (arith, k .may .node, x .few)
+  node = omega (arith, m, x .few)
 
   -- n is as it was, and so is each number of a row, which lies before the counts
   size-kept : sizeIn (firing l i) ≡ c .n
@@ -175,49 +176,48 @@ module _ {l : List ℕ} {c : Chain} {s : Run} (x : Shows l c s) {i : ℕ} (k : F
       ∙ ap (λ (m : List ℕ). heldIn m i) (put-none (counted l i) i (omega arith))
       ∙ counted-other l i (65 + i) (λ e. omega arith) ∙ x .holds i h ∙ sym (held-sink c s i i l′ (λ e. omega arith))
 
--- the input queue, of a node that has one: the flow has its contents and its c when they are taken, and there is enough
-module _ {l : List ℕ} {c : Chain} {s : Run} (x : Shows l c s) (j : ℕ) (k : Firing c s (suc j)) where
+-- the input queue, of a node that has one: the flow has its contents and its c when they are taken
+module _ {l : List ℕ} {c : Chain} {s : Run} (x : Shows l c s) (j : ℕ) (m : j < c .n) where
   abbrev half : List ℕ
   half = putIn (counted l (suc j)) (suc j)
 
   input-held : heldIn half j ≡ heldAt s j
   input-held =
-      put-other (counted l (suc j)) (suc j) (65 + j) (λ e. omega arith) ∙ counted-other l (suc j) (65 + j) (λ e. omega (arith, x .few, k .may .node)) ∙ x .holds j (omega (arith, x .few, k .may .node))
+      put-other (counted l (suc j)) (suc j) (65 + j) (λ e. omega arith) ∙ counted-other l (suc j) (65 + j) (λ e. omega (arith, x .few, m)) ∙ x .holds j (omega (arith, x .few, m))
 
   input-taken : consumeIn half j ≡ rowOf c j .consume
   input-taken =
-      put-other (counted l (suc j)) (suc j) (32 + j) (λ e. omega (arith, x .few, k .may .node))
-      ∙ counted-other l (suc j) (32 + j) (λ e. omega (arith, x .few, k .may .node)) ∙ x .takes j (k .may .node)
+      put-other (counted l (suc j)) (suc j) (32 + j) (λ e. omega (arith, x .few, m))
+      ∙ counted-other l (suc j) (32 + j) (λ e. omega (arith, x .few, m)) ∙ x .takes j m
 
-  input-enough : rowOf c j .consume ≤ heldAt s j
-  input-enough = over-enough (k .chain .chain) s j (k .may .node) (k .may .over)
-
-  input-shown : heldIn (firing l (suc j)) j ≡ heldAt (fired c s (suc j)) j
+  input-shown : rowOf c j .consume ≤ heldAt s j → heldIn (firing l (suc j)) j ≡ heldAt (fired c s (suc j)) j
   unfolding firing takenOut
-  input-shown =
-      let wide : 65 + j < length half = omega (arith, put-length (counted l (suc j)) (suc j), length-set l (48 + suc j) (getD l (48 + suc j) 0 + 1), x .long, x .few, k .may .node) in
-      omega (arith, getD-set-same half (65 + j) (heldIn half j - consumeIn half j) 0 wide, input-held, input-taken, held-input c s j (omega (arith, x .deep, x .few, k .may .node)) input-enough)
+  input-shown enough =
+      let wide : 65 + j < length half = omega (arith, put-length (counted l (suc j)) (suc j), length-set l (48 + suc j) (getD l (48 + suc j) 0 + 1), x .long, x .few, m) in
+      omega (arith, getD-set-same half (65 + j) (heldIn half j - consumeIn half j) 0 wide, input-held, input-taken, held-input c s j (omega (arith, x .deep, x .few, m)) enough)
 
-pub shows-fired : {l : List ℕ} {c : Chain} {s : Run} (x : Shows l c s) {i : ℕ} (k : Firing c s i) → Shows (firing l i) c (fired c s i)
-shows-fired {l} {c} {s} x {i} k = record {
+pub shows-fired : {l : List ℕ} {c : Chain} {s : Run} → Shows l c s → Sound c → {i : ℕ} → May c s i → Shows (firing l i) c (fired c s i)
+shows-fired {l} {c} {s} x k {i} m = record {
   long = firing-length l i ∙ x .long;
-  many = size-kept x k;
+  many = size-kept x (m .node);
   few = x .few;
-  puts = λ j h. row-kept x k j (omega (arith, x .few)) ∙ x .puts j h;
-  waits = λ j h. row-kept x k (16 + j) (omega (arith, x .few)) ∙ x .waits j h;
-  takes = λ j h. row-kept x k (32 + j) (omega (arith, x .few)) ∙ x .takes j h;
+  puts = λ j h. row-kept x (m .node) j (omega (arith, x .few)) ∙ x .puts j h;
+  waits = λ j h. row-kept x (m .node) (16 + j) (omega (arith, x .few)) ∙ x .waits j h;
+  takes = λ j h. row-kept x (m .node) (32 + j) (omega (arith, x .few)) ∙ x .takes j h;
   wide = counts-length c s i ∙ x .wide;
   deep = holds-length c s i ∙ x .deep;
-  counts = count-shown x k;
+  counts = count-shown x (m .node);
   holds = held-shown;
 }
   where
     held-shown : (j : ℕ) → j < 16 → heldIn (firing l i) j ≡ heldAt (fired c s i) j
     held-shown j h = by-cases (ℕ-discrete j i)
-        (λ e. rw e (by-cases (decLt i (c .n)) (output-shown x k) (λ n. sink-shown x k (omega arith) (omega arith))))
+        (λ e. rw e (by-cases (decLt i (c .n)) (output-shown x (m .node)) (λ n. sink-shown x (m .node) (omega arith) (omega arith))))
         (λ ne. by-cases (ℕ-discrete (suc j) i)
-        (λ e. subst (λ (m : ℕ). heldIn (firing l m) j ≡ heldAt (fired c s m) j) e (input-shown x j (subst (Firing c s) (sym e) k)))
-        (λ ne′. firing-other l i (65 + j) (λ e. omega (arith, node x k)) (λ e. ne (omega arith)) (λ m e z. ne′ (omega arith)) ∙ x .holds j h ∙ sym (held-other c s i j ne ne′)))
+        (λ e.
+        let inside : j < c .n = omega (arith, m .node) in
+        subst (λ (n : ℕ). heldIn (firing l n) j ≡ heldAt (fired c s n) j) e (input-shown x j inside (over-enough k s j inside (subst (Over c s) (sym e) (m .over)))))
+        (λ ne′. firing-other l i (65 + j) (λ e. omega (arith, node x (m .node))) (λ e. ne (omega arith)) (λ n e z. ne′ (omega arith)) ∙ x .holds j h ∙ sym (held-other c s i j ne ne′)))
 
 -- what the code of the production asks: the sum fits
 pub record Puts (l : List ℕ) (i : ℕ) : Type 0 where
@@ -232,10 +232,10 @@ pub record Takes (l : List ℕ) (i : ℕ) : Type 0 where
 -- the numbers of a firing fit
 module _ {l : List ℕ} {i : ℕ} (r : Ready l i) where
   pub ready-node : i ≤ 16
-  ready-node = node (r .shows) (r .firing)
+  ready-node = node (r .shows) (r .may .node)
 
   pub ready-count : countIn l i < limit
-  ready-count = let n : countAt (r .run) i ≢ limit = r .firing .may .countable in omega (arith, r .word, r .shows .counts i (omega (arith, ready-node)))
+  ready-count = let n : countAt (r .run) i ≢ limit = r .may .countable in omega (arith, r .word, r .shows .counts i (omega (arith, ready-node)))
 
   pub ready-puts : Puts (counted l i) i
   ready-puts =
@@ -246,14 +246,15 @@ module _ {l : List ℕ} {i : ℕ} (r : Ready l i) where
             let f : i < r .chain .n = omega arith in
             let a = counted-other l i (65 + i) (λ e. omega arith) ∙ r .shows .holds i (omega (arith, r .shows .few)) in
             let b = counted-other l i i (λ e. omega arith) ∙ r .shows .puts i f in
-            omega (arith, a, b, r .firing .may .room f, capacity-most (r .firing .chain .chain .rows i f));
+            omega (arith, a, b, r .may .room f, capacity-most (r .sound .rows i f));
       }
 
   pub ready-takes : Takes (putIn (counted l i) i) i
   ready-takes = record { node = ready-node; enough = enough }
     where
-      at : (j : ℕ) → Firing (r .chain) (r .run) (suc j) → consumeIn (putIn (counted l (suc j)) (suc j)) j ≤ heldIn (putIn (counted l (suc j)) (suc j)) j
-      at j k = omega (arith, input-held (r .shows) j k, input-taken (r .shows) j k, input-enough (r .shows) j k)
+      at : (j : ℕ) → j < r .chain .n → Over (r .chain) (r .run) (suc j) → consumeIn (putIn (counted l (suc j)) (suc j)) j ≤ heldIn (putIn (counted l (suc j)) (suc j)) j
+      at j m o = omega (arith, input-held (r .shows) j m, input-taken (r .shows) j m, over-enough (r .sound) (r .run) j m o)
 
       enough : (j : ℕ) → i ≡ suc j → consumeIn (putIn (counted l i) i) j ≤ heldIn (putIn (counted l i) i) j
-      enough j e = subst (λ (m : ℕ). consumeIn (putIn (counted l m) m) j ≤ heldIn (putIn (counted l m) m) j) (sym e) (at j (subst (Firing (r .chain) (r .run)) e (r .firing)))
+      enough j e = subst (λ (m : ℕ). consumeIn (putIn (counted l m) m) j ≤ heldIn (putIn (counted l m) m) j) (sym e)
+          (at j (omega (arith, r .may .node, e)) (subst (Over (r .chain) (r .run)) e (r .may .over)))

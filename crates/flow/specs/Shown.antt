@@ -1,6 +1,6 @@
 -- The two ends of a flow: the chain that it is filled from, and the state that is read out of it.
---   Filled c i l             a flow of which the first i rows are filled: n is in its place, and no count or contents are there yet
---   filled-none, -more, -shows
+--   Entered c i l            a flow of which the first i rows are filled in: n is in its place, and no count or contents are there yet
+--   entered-none, -more, -shows
 --                            at the start, with one row more, and at the end: it shows a fresh start
 --   shown l                  the state that a flow has, clock and work done being 0
 --   shown-is                 it is the state that the flow shows, where that has them
@@ -21,8 +21,8 @@ use Rattle.state.specs.State.{freshRun, fresh-empty, emptyRun, same-run}
 use Rattle.state.specs.declared.Run.{Run}
 use Rattle.flow.specs.Flow.{produceIn, thresholdIn, consumeIn, countIn, heldIn, sizeIn, Shows}
 
--- the first i rows are filled
-pub record Filled (c : Chain) (i : ℕ) (l : List ℕ) : Type 0 where
+-- the first i rows are filled in
+pub record Entered (c : Chain) (i : ℕ) (l : List ℕ) : Type 0 where
   pub reach : i ≤ c .n
   pub long : length l ≡ 83
   pub many : sizeIn l ≡ c .n
@@ -34,8 +34,8 @@ pub record Filled (c : Chain) (i : ℕ) (l : List ℕ) : Type 0 where
 zeros : (N y z : ℕ) → y < N → getD (replicate N z) y z ≡ z
 zeros N y z l = getD-replicate N y z z l
 
-pub filled-none : (c : Chain) → Filled c 0 (set (replicate 83 0) 82 (c .n))
-filled-none c = record {
+pub entered-none : (c : Chain) → Entered c 0 (set (replicate 83 0) 82 (c .n))
+entered-none c = record {
   reach = omega arith;
   long = length-set (replicate 83 0) 82 (c .n) ∙ length-replicate {A = ℕ} 83 0;
   many = getD-set-same (replicate 83 0) 82 (c .n) 0 (omega (arith, length-replicate {A = ℕ} 83 0));
@@ -46,7 +46,7 @@ filled-none c = record {
 }
 
 -- one row more
-module _ {c : Chain} {i : ℕ} {l : List ℕ} (few : c .n ≤ 16) (f : Filled c i l) (h : i < c .n) where
+module _ {c : Chain} {i : ℕ} {l : List ℕ} (few : c .n ≤ 16) (f : Entered c i l) (h : i < c .n) where
   abbrev one : List ℕ
   one = set l i (rowOf c i .produce)
 
@@ -65,8 +65,8 @@ module _ {c : Chain} {i : ℕ} {l : List ℕ} (few : c .n ≤ 16) (f : Filled c 
   long-two : length two ≡ 83
   long-two = length-set one (16 + i) _ ∙ long-one
 
-  pub filled-more : Filled c (i + 1) three
-  filled-more = record {
+  pub entered-more : Entered c (i + 1) three
+  entered-more = record {
     reach = omega arith;
     long = length-set two (32 + i) _ ∙ long-two;
     many = other 82 (λ e. omega arith) (λ e. omega arith) (λ e. omega arith) ∙ f .many;
@@ -83,8 +83,8 @@ module _ {c : Chain} {i : ℕ} {l : List ℕ} (few : c .n ≤ 16) (f : Filled c 
   }
 
 -- all rows: a fresh start
-pub filled-shows : {c : Chain} {i : ℕ} {l : List ℕ} → Sound c → c .n ≤ i → Filled c i l → Shows l c (freshRun c)
-filled-shows {c} {i} {l} s e f = rw (← fresh-empty c) (record {
+pub entered-shows : {c : Chain} {i : ℕ} {l : List ℕ} → Sound c → c .n ≤ i → Entered c i l → Shows l c (freshRun c)
+entered-shows {c} {i} {l} s e f = rw (← fresh-empty c) (record {
   long = f .long;
   many = f .many;
   few = s .count .1;

@@ -1,4 +1,5 @@
 -- A history: the nodes that fired, in order (01, Firing, and demand 3).
+--   Entry, nodes h           an instant and a node, and the nodes of a list of them, in order
 --   times i h                how often N_i stands in h
 --   after c s h              the state that the firings h lead to from s
 --   EachFiring c P s h       P holds of each firing of h and of the state that it is made in
@@ -13,7 +14,7 @@
 --   each-before              what a history begins with
 use mathlib.Core.Path.{_≡_, refl}
 use mathlib.Core.Bool.{cond}
-use mathlib.Core.List.{List, [], _∷_, _++_}
+use mathlib.Core.List.{List, [], _∷_, _++_, map}
 use Prim.Native.Nat.{ℕ, suc, _≤_, _<_}
 use lib.Dec.{eqb}
 use Rattle.chain.specs.Refusals.{Silent}
@@ -23,6 +24,14 @@ use Rattle.state.specs.State.{heldAt, freshRun}
 use Rattle.state.specs.Fired.{fired}
 use Rattle.state.specs.Fire.{fireRefusal}
 use Rattle.state.specs.declared.Run.{Run}
+
+-- an instant, and the node whose firing takes effect then
+abbrev pub Entry : Type 0
+Entry = ℕ × ℕ
+
+-- the nodes of a trace, in order
+abbrev pub nodes : List Entry → List ℕ
+nodes h = map (λ (e : Entry). e .1) h
 
 -- how often N_i fires in h
 unfoldable pub times : ℕ → List ℕ → ℕ

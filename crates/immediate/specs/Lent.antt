@@ -23,13 +23,14 @@ use Rattle.chain.specs.declared.Chain.{Chain}
 use Rattle.state.specs.State.{countAt, heldAt, freshRun, fresh-count}
 use Rattle.state.specs.Fired.{fired}
 use Rattle.state.specs.declared.Run.{Run}
-use Rattle.history.specs.History.{after}
+use Rattle.history.specs.History.{times, after}
+use Rattle.history.specs.Laws.{counted-from}
 use Rattle.schedule.specs.Counts.{F}
-use Rattle.schedule.specs.Reached.{Reached, Calm, reached-fresh, fresh-calm, one-state}
-use Rattle.schedule.specs.Schedule.{schedule, fresh-tight, ends, reached, counts-are-F}
+use Rattle.schedule.specs.Reached.{Reached, Calm, reached-fresh, fresh-calm}
+use Rattle.schedule.specs.Schedule.{schedule, unique, fresh-tight}
 use Rattle.flow.specs.Flow.{thresholdIn, heldIn, sizeIn, firing, Shows, Ready, shows-fired}
 use Rattle.flow.specs.Shown.{shown, shown-is}
-use Rattle.immediate.specs.Steps.{Bounds, Held, FireAsk, FireDone, SettleAsk, SettleDone, Settling, fire-word, fire-firing}
+use Rattle.immediate.specs.Steps.{Bounds, Held, Trail, trail-none, trail-then, FireAsk, FireDone, SettleAsk, SettleDone, Settling, fire-word, fire-firing}
 use Rattle.immediate.specs.Steps.{fire-settle, fire-done, fire-sink, settle-none, settle-fire, settle-more, settle-less, settle-done}
 
 -- the flow shows a state in which N_i may fire, nearest the sink
@@ -66,13 +67,24 @@ pub record SettleGives (l : List ℕ) (q : ℕ) (m : List ℕ) : Type 0 where
 pub record Going (l : List ℕ) (q : ℕ) (m : List ℕ) : Type 0 where
   pub gives : (k : ℕ) (c : Chain) (s : Run) → Shows l c s → SettleAsk k c s q → Showing (Settling c s q) c m
 
+-- the flow that fire is handed shows, after the firing, the state after it
+shown-next : {l : List ℕ} {k : ℕ} {c : Chain} {s : Run} {i : ℕ} → Shows l c s → FireAsk k c s i → Shows (firing l i) c (fired c s i)
+shown-next x a = shows-fired x (a .bounds .accepted .chain) (fire-firing a .may)
+
 -- what fire is handed
 module _ {l : List ℕ} {i : ℕ} (f : Fire l i) where
   pub fire-ready : Ready l i
-  fire-ready = record { chain = f .chain; run = f .run; shows = f .shows; firing = fire-firing (f .ask); word = omega (arith, fire-word (f .ask)) }
+  fire-ready = record {
+    chain = f .chain;
+    run = f .run;
+    shows = f .shows;
+    sound = f .ask .bounds .accepted .chain;
+    may = fire-firing (f .ask) .may;
+    word = omega (arith, fire-word (f .ask));
+  }
 
   next : Shows (firing l i) (f .chain) (fired (f .chain) (f .run) i)
-  next = shows-fired (f .shows) (fire-firing (f .ask))
+  next = shown-next (f .shows) (f .ask)
 
   pub fire-size : (sizeIn (firing l i) ≡ sizeIn l) × (sizeIn l ≤ 16)
   fire-size = (next .many ∙ sym (f .shows .many), omega (arith, f .shows .many, f .shows .few))
@@ -83,7 +95,7 @@ module _ {l : List ℕ} {i : ℕ} (f : Fire l i) where
 pub fire-ends : {l m : List ℕ} {i : ℕ} → i < sizeIn (firing l i) → SettleGives (firing l i) i m → FireGives l i m
 fire-ends {l} {m} {i} h g = record {
   gives = λ k c s x a.
-      let y = shows-fired x (fire-firing a) in
+      let y = shown-next x a in
       let z = g .gives k c (fired c s i) y (fire-settle a (omega (arith, y .many))) in
       record { run = z .run; shows = z .shows; is = fire-done a (z .is) };
 }
@@ -91,7 +103,7 @@ fire-ends {l} {m} {i} h g = record {
 pub fire-ends-sink : {l : List ℕ} {i : ℕ} → sizeIn (firing l i) ≤ i → FireGives l i (firing l i)
 fire-ends-sink {l} {i} h = record {
   gives = λ k c s x a.
-      let y = shows-fired x (fire-firing a) in
+      let y = shown-next x a in
       record { run = fired c s i; shows = y; is = fire-sink a (omega (arith, y .many)) };
 }
 
@@ -148,6 +160,7 @@ module _ {l m : List ℕ} {q : ℕ} (g : Going l q m) where
 
 -- only the source may fire, and has fired m times
 pub record Source (c : Chain) (m : ℕ) (s : Run) : Type 0 where
+  pub trail : Trail c (freshRun c) s
   pub held : Held c s
   pub calm : Calm c s 0
   pub count : countAt s 0 ≡ m
@@ -169,6 +182,7 @@ driving-none k l = record {
       run = freshRun c;
       shows = x;
       is = record {
+        trail = trail-none c (freshRun c);
         held = record { reached = reached-fresh (b .accepted .chain); tight = fresh-tight (b .accepted .chain) };
         calm = fresh-calm (b .accepted .chain) 0;
         count = fresh-count c 0;
@@ -202,16 +216,19 @@ module _ {k m : ℕ} {l u : List ℕ} (g : Driving k l m u) where
         let z = f .gives k c (d .state .run) (d .state .shows) (source b d h) in
         record {
           most = omega arith;
-          state = record { run = z .run; shows = z .shows; is = record { held = z .is .held; calm = z .is .calm; count = z .is .once ∙ ap (λ (n : ℕ). n + 1) (d .state .is .count) } };
+          state = record { run = z .run; shows = z .shows; is = record { trail = trail-then (d .state .is .trail) (z .is .trail); held = z .is .held; calm = z .is .calm; count = z .is .once ∙ ap (λ (n : ℕ). n + 1) (d .state .is .count) } };
         };
   }
 
-  -- after k of them it is the state after the schedule, since both are calm and have the same count of the source
+  -- after k of them its firings are the schedule's, since both are by the rule, end calm and have k firings of the source
   pub driving-done : {c : Chain} → Bounds k c → Shows l c (freshRun c) → k ≤ m → shown u ≡ after c (freshRun c) (schedule c k)
-  unfolding F
   driving-done {c} b x h =
       let d = g .gives c b x in
       let sound : Sound c = b .accepted .chain in
       let r : Reached c (d .state .run) = d .state .is .held .reached in
+      let t : Trail c (freshRun c) (d .state .run) = d .state .is .trail in
+      let often : times 0 (t .firings) ≡ k =
+      omega (arith, counted-from c (freshRun c) (t .firings) 0 (omega (arith, reached-fresh sound .wide)), fresh-count c 0, ap (λ (s : Run). countAt s 0) (t .is), d .state .is .count, d .most) in
       shown-is (d .state .shows) (r .clock) (r .done)
-      ∙ one-state sound r (reached sound k) (d .state .is .calm) (ends sound k) (d .state .is .count ∙ le-antisymm (d .most) h ∙ sym (counts-are-F sound k 0 (omega arith)))
+      ∙ sym (t .is)
+      ∙ ap (after c (freshRun c)) (unique sound (t .firings) (t .follows) (subst (λ (s : Run). Calm c s 0) (sym (t .is)) (d .state .is .calm)) ∙ ap (schedule c) often)

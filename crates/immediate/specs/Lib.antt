@@ -3,4 +3,4 @@ pub mod Figures
 pub mod Long
 pub mod Steps
 pub mod Lent
-pub mod Past
+pub mod Slots

@@ -10,8 +10,9 @@
 --   fire-firing              such a firing is one that manual firing accepts
 --   fire-settle, -done, -sink, settle-none, -fire, -more, -less, -done
 --                            the steps
-use mathlib.Core.Path.{_≡_, refl, subst, _∙_}
+use mathlib.Core.Path.{_≡_, refl, sym, ap, subst, _∙_}
 use mathlib.Core.Logic.{⊎-elim}
+use mathlib.Core.List.{List, [], _∷_, _++_}
 use Prim.Native.Nat.{ℕ, suc, _+_, _*_, _≤_, _<_}
 use native.Mathlib.Nat.{eq-or-lt-of-le}
 use native.Mathlib.Omega.{arith}
@@ -26,9 +27,10 @@ use Rattle.state.specs.State.{countAt, heldAt}
 use Rattle.state.specs.Fired.{fired, Over, count-fired, count-other, held-other}
 use Rattle.state.specs.Fire.{Firing}
 use Rattle.state.specs.declared.Run.{Run}
+use Rattle.history.specs.History.{after, EachFiring, after-append, each-append}
 use Rattle.schedule.specs.Counts.{F, fed, fed-mono}
 use Rattle.schedule.specs.Reached.{Reached, Calm, reached-fired}
-use Rattle.schedule.specs.Schedule.{Next, Tight, tight-fired, next-firing}
+use Rattle.schedule.specs.Schedule.{Next, Follows, Tight, tight-fired, next-firing}
 use Rattle.immediate.specs.Checks.{most}
 
 -- a chain that may run, and counts that stay within the limit
@@ -51,8 +53,30 @@ pub record FireAsk (k : ℕ) (c : Chain) (s : Run) (i : ℕ) : Type 0 where
   pub calm : Calm c s i
   pub below : countAt s i < F c k i
 
+-- firings by the rule lead from s to r
+pub record Trail (c : Chain) (s r : Run) : Type 0 where
+  pub firings : List ℕ
+  pub follows : Follows c s firings
+  pub is : after c s firings ≡ r
+
+pub trail-none : (c : Chain) (s : Run) → Trail c s s
+unfolding after EachFiring
+trail-none c s = record { firings = []; follows = tt; is = refl }
+
+trail-first : {c : Chain} {s r : Run} {i : ℕ} → Next c s i → Trail c (fired c s i) r → Trail c s r
+unfolding after EachFiring
+trail-first {i = i} n t = record { firings = i ∷ t .firings; follows = (n, t .follows); is = t .is }
+
+pub trail-then : {c : Chain} {s r u : Run} → Trail c s r → Trail c r u → Trail c s u
+trail-then {c} {s} {r} {u} a b = record {
+  firings = a .firings ++ b .firings;
+  follows = each-append c (Next c) s (a .firings) (b .firings) (a .follows) (subst (λ (x : Run). Follows c x (b .firings)) (sym (a .is)) (b .follows));
+  is = after-append c s (a .firings) (b .firings) ∙ ap (λ (x : Run). after c x (b .firings)) (a .is) ∙ b .is;
+}
+
 -- N_i has fired once more, and from it on no node may fire
 pub record FireDone (c : Chain) (s : Run) (i : ℕ) (r : Run) : Type 0 where
+  pub trail : Trail c s r
   pub held : Held c r
   pub calm : Calm c r i
   pub same : (j : ℕ) → j < i → countAt r j ≡ countAt s j
@@ -68,12 +92,14 @@ pub record SettleAsk (k : ℕ) (c : Chain) (s : Run) (q : ℕ) : Type 0 where
 
 -- the queue's consumer may not fire either
 pub record SettleDone (c : Chain) (s : Run) (q : ℕ) (r : Run) : Type 0 where
+  pub trail : Trail c s r
   pub held : Held c r
   pub calm : Calm c r q
   pub same : (j : ℕ) → j ≤ q → countAt r j ≡ countAt s j
 
 -- before each firing of the queue's consumer, the nodes after that one are calm
 pub record Settling (c : Chain) (s : Run) (q : ℕ) (r : Run) : Type 0 where
+  pub trail : Trail c s r
   pub held : Held c r
   pub calm : Calm c r (suc q)
   pub same : (j : ℕ) → j ≤ q → countAt r j ≡ countAt s j
@@ -92,8 +118,8 @@ module _ {k : ℕ} {c : Chain} {s : Run} {i : ℕ} (a : FireAsk k c s i) where
   pub fire-firing : Firing c s i
   fire-firing = next-firing (a .bounds .accepted) (a .bounds .enough) (a .held .reached) (a .held .tight) next (λ e. omega (arith, fire-word))
 
-  after : Held c (fired c s i)
-  after = record {
+  held-after : Held c (fired c s i)
+  held-after = record {
     reached = reached-fired sound (a .held .reached) i (a .node) (a .over);
     tight = tight-fired sound (a .held .reached) next (a .held .tight);
   }
@@ -107,7 +133,7 @@ module _ {k : ℕ} {c : Chain} {s : Run} {i : ℕ} (a : FireAsk k c s i) where
   pub fire-settle : i < c .n → SettleAsk k c (fired c s i) i
   fire-settle l = record {
     bounds = a .bounds;
-    held = after;
+    held = held-after;
     queue = l;
     calm = λ j le lt. rw (held-other c s i j (λ e. omega arith) (λ e. omega arith)) (a .calm j (omega arith) lt);
     below = omega (arith, once, a .below);
@@ -115,6 +141,7 @@ module _ {k : ℕ} {c : Chain} {s : Run} {i : ℕ} (a : FireAsk k c s i) where
 
   pub fire-done : {r : Run} → SettleDone c (fired c s i) i r → FireDone c s i r
   fire-done d = record {
+    trail = trail-first next (d .trail);
     held = d .held;
     calm = d .calm;
     same = λ j l. d .same j (omega arith) ∙ before j l;
@@ -122,11 +149,11 @@ module _ {k : ℕ} {c : Chain} {s : Run} {i : ℕ} (a : FireAsk k c s i) where
   }
 
   pub fire-sink : c .n ≤ i → FireDone c s i (fired c s i)
-  fire-sink l = record { held = after; calm = λ j le lt. absurd (omega arith); same = before; once = once }
+  fire-sink l = record { trail = trail-first next (trail-none c (fired c s i)); held = held-after; calm = λ j le lt. absurd (omega arith); same = before; once = once }
 
 module _ {k : ℕ} {c : Chain} {s : Run} {q : ℕ} (a : SettleAsk k c s q) where
   pub settle-none : Settling c s q s
-  settle-none = record { held = a .held; calm = a .calm; same = λ j l. refl }
+  settle-none = record { trail = trail-none c s; held = a .held; calm = a .calm; same = λ j l. refl }
 
   module _ {r : Run} (x : Settling c s q r) where
     -- a consumer that may fire has fired less often than its producer's count lets it
@@ -143,7 +170,7 @@ module _ {k : ℕ} {c : Chain} {s : Run} {q : ℕ} (a : SettleAsk k c s q) where
     settle-fire o = record { bounds = a .bounds; held = x .held; node = a .queue; over = o; calm = x .calm; below = short o }
 
     pub settle-more : {u : Run} → FireDone c r (suc q) u → Settling c s q u
-    settle-more d = record { held = d .held; calm = d .calm; same = λ j l. d .same j (omega arith) ∙ x .same j l }
+    settle-more d = record { trail = trail-then (x .trail) (d .trail); held = d .held; calm = d .calm; same = λ j l. d .same j (omega arith) ∙ x .same j l }
 
     pub settle-less : {u : Run} → FireDone c r (suc q) u → heldAt u q < heldAt r q
     settle-less {u} d = less _ _ _ _ _ _ _ _ _ (x .held .reached .balance q (a .queue)) (d .held .reached .balance q (a .queue))
@@ -154,6 +181,7 @@ module _ {k : ℕ} {c : Chain} {s : Run} {q : ℕ} (a : SettleAsk k c s q) where
 
     pub settle-done : heldAt r q < rowOf c q .threshold → SettleDone c s q r
     settle-done l = record {
+      trail = x .trail;
       held = x .held;
       calm = λ j le lt. ⊎-elim (λ e. subst (λ (m : ℕ). heldAt r m < rowOf c m .threshold) e l) (λ h. x .calm j h lt) (eq-or-lt-of-le le);
       same = x .same;

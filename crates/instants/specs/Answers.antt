@@ -21,7 +21,7 @@ use Rattle.sizing.specs.Checks.{Enough}
 use Rattle.sizing.specs.Accepted.{Accepted}
 use Rattle.state.specs.State.{freshRun}
 use Rattle.state.specs.declared.Run.{Run}
-use Rattle.past.specs.Runs.{Whole}
+use Rattle.slots.specs.Runs.{Whole}
 use Rattle.instants.specs.Steps.{tickOf, clean, tick, ticks}
 use Rattle.instants.specs.Checks.{longest, tickRefusal, outcomeOf, tickAnswer, deadlineRunAnswer}
 use Rattle.instants.specs.Refusals.{Ticking, ticking-is, ranAs, tick-ran, deadline-run-accepts, deadline-run-ran}

@@ -21,7 +21,7 @@ use borrow.Author.Tests.{leb-true, leb-false}
 use Rattle.chain.specs.declared.Chain.{Chain}
 use Rattle.state.specs.Checks.{over}
 use Rattle.state.specs.declared.Run.{Run}
-use Rattle.deadlines.specs.Deadline.{deadline}
+use Rattle.deadline.specs.Deadline.{deadline}
 use Rattle.instants.specs.Steps.{next, asEarly, choose, chosen}
 
 -- "ties to the one nearest the sink"

@@ -28,7 +28,7 @@ use Rattle.state.specs.State.{freshRun}
 use Rattle.state.specs.declared.Run.{Run}
 use Rattle.instants.specs.Steps.{kindOf, tickOf, atOf, overflowed, undated, clean, onward, chosen, tick, ticks, instants}
 use Rattle.instants.specs.Runs.{ticks-none, ticks-suc}
-use Rattle.instants.specs.Kept.{Running, unclean-overflow, unclean-undated, tick-step}
+use Rattle.instants.specs.Kept.{Running, unclean-overflow, unclean-undated, running-filled, tick-running}
 use Rattle.instants.specs.Fresh.{fresh-running, run-is-ticks}
 use Rattle.instants.specs.Lacking.{FirstLacking}
 use Rattle.instants.specs.Spill.{finish-fits}
@@ -162,7 +162,7 @@ module _ {c : Chain} (enough : (j : ℕ) → j < c .n → Enough c j) {s : Run} 
       let w : Works c u (chosen c u) = works-is c u (chosen c u) .0 refl in
       inr (record {
         is = finish-fits k enough;
-        tick = record { after = u; worker = chosen c u; fits = fits; source = o; dated = d; works = w; work = work-once k (chosen c u) (w .node) (w .over) (finish-fits k enough) };
+        tick = record { after = u; worker = chosen c u; fits = fits; source = o; dated = d; works = w; work = work-once (running-filled k) (chosen c u) (w .node) (w .over) (finish-fits k enough) };
       }))
 
   -- "one tick at clock t": what holds of one, and of nothing else
@@ -207,7 +207,7 @@ module _ {c : Chain} (enough : (j : ℕ) → j < c .n → Enough c j) where
       (λ a. inr (record {
         next = tick c s .run;
         tick = a .tick;
-        holds = subst (TicksTo c T (tick c s .run)) (sym (goes-on (λ i. record { outcome = a .is i; run = tick c s .run }))) (is-many T (tick-step r (a .is) .running));
+        holds = subst (TicksTo c T (tick c s .run)) (sym (goes-on (λ i. record { outcome = a .is i; run = tick c s .run }))) (is-many T (tick-running r (a .is)));
       }))
       (is-one enough r)
     where

@@ -14,11 +14,11 @@ use Rattle.chain.specs.declared.Chain.{Chain}
 use Rattle.sizing.specs.Accepted.{Accepted}
 use Rattle.state.specs.State.{countAt, doneAt, freshRun, fresh-empty, zeros, fresh-count, fresh-held}
 use Rattle.state.specs.declared.Run.{Run}
-use Rattle.past.specs.Runs.{Whole}
+use Rattle.slots.specs.Runs.{Whole}
 use Rattle.instants.specs.Checks.{longest}
 use Rattle.instants.specs.Steps.{clean, onward, finish, finished, ticks, instants, tick}
 use Rattle.instants.specs.Runs.{onward-clean, ticks-none, ticks-last, instants-ticks}
-use Rattle.instants.specs.Kept.{Running, Countable, TickStep, onward-cases, tick-step, ended-none}
+use Rattle.instants.specs.Kept.{Running, Countable, TickStep, onward-cases, running-filled, tick-step, tick-running, ended-none}
 use Rattle.instants.specs.declared.Outcome.the-variants.{Clean}
 use Rattle.instants.specs.declared.Ticked.{Ticked}
 
@@ -62,8 +62,8 @@ paced-countable p l i h e = omega (arith, p .counts i h)
 
 pub tick-paced : {c : Chain} {s : Run} → Paced c s → tick c s .outcome ≡ Clean → Paced c (tick c s .run)
 tick-paced {c} {s} p h =
-    let t : TickStep c s (tick c s .run) = tick-step (p .running) h in
-    record { running = t .running; counts = λ i f. omega (arith, t .counts i f, p .counts i f, t .clock) }
+    let t : TickStep c s (tick c s .run) = tick-step (running-filled (p .running)) h in
+    record { running = tick-running (p .running) h; counts = λ i f. omega (arith, t .counts i f, p .counts i f, t .clock) }
 
 -- T clean ticks from a fresh start leave such a state, at clock T
 pub ticks-paced : {c : Chain} → Accepted c → (T : ℕ) → ticks c T (freshRun c) .outcome ≡ Clean → Paced c (ticks c T (freshRun c) .run) × (ticks c T (freshRun c) .run .clock ≡ T)
@@ -73,4 +73,4 @@ ticks-paced {c} a (suc T) h =
     let s : Run = ticks c T (freshRun c) .run in
     let o = onward-cases (ticks c T (freshRun c)) (tick c) (ap (λ (x : Ticked). x .outcome) (sym (ticks-last c T (freshRun c))) ∙ h) in
     let k = ticks-paced a T (o .0) in
-    rw (ticks-last c T (freshRun c) ∙ o .1 .1) (tick-paced (k .0) (o .1 .0), omega (arith, tick-step (k .0 .running) (o .1 .0) .clock, k .1))
+    rw (ticks-last c T (freshRun c) ∙ o .1 .1) (tick-paced (k .0) (o .1 .0), omega (arith, tick-step (running-filled (k .0 .running)) (o .1 .0) .clock, k .1))

@@ -1,23 +1,32 @@
--- What the steps of a tick keep of a state that passes 17 (01, Firing and Numbers a call may refuse with).
---   Running c s                an accepted chain, and a state of it that passes 17; running-slots: it has a slot for each node and queue
---   fired-running              a firing of a node that may fire, with room, leaves such a state
+-- What the steps of a tick keep of a state (01, Firing and Numbers a call may refuse with).
+--   Filled c s                 what a step needs: an accepted chain, whole arrays, no queue above its capacity, and work done below e
+--   Balanced c s               each queue holds what was put in less what was taken out
+--   Running c s                both: an accepted chain, and a state of it that passes 17; running-filled, -balanced, filled-running: which says the same
+--   fired-filled, -balanced, -running
+--                              a firing of a node that may fire, with room, keeps each of them
 --   room-of                    a queue that is not full for N_i has room for it
 --   unclean-overflow, -undated no outcome that ends a run is clean
 --   source-cases, finish-cases what holds of each way in which the source's step, and the effect of a firing, end holds of them
 --   sourced-others, -held, -stays
 --                              the source's step changes no other node or queue, and nothing at all where it is not clean
---   SourceStep c s u           what it leaves where it is clean; sourced-clean: it does; source-may: the source may fire where there is room
---   onward-cases               what goes on was clean
+--   source-may                 the source may fire where there is room
+--   SourceStep c s u           what it leaves where it is clean; sourced-clean: it does; source-running: a state that passes 17 where there was one
+--   goes-on, goes-no-further   what follows a clean outcome, and that nothing follows another; onward-cases: what goes on was clean
 --   begun-clean, begun-stays   the source's step and 13 leave what the source's step does where neither ends the tick, and else the state as it was
+--   begun-over, -silent, -undated
+--                              what they leave in each of their three cases
 --   chosen-low, chosen-over    the node that works is a node of the chain, and over threshold
 --   ended-none, ended-one      which node's work is done
 --   worked-counts, -held, -clock, -other, -same
 --                              what one tick of work leaves
---   works-running, works-on    a firing that is not finished: the state passes 17, and nothing takes effect
---   works-ends, cleared-running, finish-may
---                              one that is: its effect, the state with its work cleared, and that its node may fire
---   tick-begun                 a tick is the source's step and 13, and then the work of the node chosen and its effect
---   TickStep c s t, tick-step  what a clean tick leaves
+--   filled-as                  what a state with the same counts and contents keeps
+--   works-filled, -unended, -on
+--                              a firing that is not finished: what is kept, that no node's work is done, and that nothing takes effect
+--   works-ended, -ends, cleared-filled, cleared-running, finish-may
+--                              one that is: that its node's work is done, its effect, what is kept with its work cleared, and that its node may fire
+--   tick-begun, tick-ends, tick-works
+--                              a tick is the source's step and 13, and then, where these are clean, the work of the node chosen and its effect
+--   TickStep c s t             what a clean tick leaves; works-step, tick-step: it does; tick-running: a state that passes 17 where there was one
 --   fired-clock                a firing does not move the clock
 --   Countable c s              every count can grow
 use mathlib.Core.Path.{_≡_, refl, sym, ap, subst, _∙_}
@@ -31,25 +40,37 @@ use native.Mathlib.Omega.{arith}
 use lib.Dec.{eqb}
 use lib.ListN.{length, getD, length-set}
 use lib.Seq.{getD-set-same, getD-set-other}
-use borrow.Author.Tests.{eqb-true, le-leb, lt-leb}
-use Rattle.chain.specs.Refusals.{Silent, test}
+use borrow.Author.Tests.{eqb-true, eq-eqb, le-leb, lt-leb}
+use Rattle.chain.specs.Refusals.{Silent, refused, test}
 use Rattle.chain.specs.Record.{rowOf, workOf}
 use Rattle.chain.specs.Sound.{Sound}
+use Rattle.chain.specs.declared.Refusal.{Refusal}
 use Rattle.chain.specs.declared.Chain.{Chain}
 use Rattle.sizing.specs.Sizes.{capacityOf}
 use Rattle.sizing.specs.Checks.{limit}
 use Rattle.sizing.specs.Accepted.{Accepted}
 use Rattle.state.specs.State.{countAt, heldAt, doneAt}
-use Rattle.state.specs.Fired.{fired, Over, Room, May, Slots, over-enough, count-fired, count-other, held-output, held-input, held-other, counts-length, holds-length, balance-kept}
+use Rattle.state.specs.Fired.{fired, Over, Room, May, Slots, Balance, over-enough, count-fired, count-other, held-output, held-input, held-other, counts-length, holds-length, balance-kept}
 use Rattle.state.specs.Checks.{over, over-true, cramped, StateSound, room-silent}
 use Rattle.state.specs.declared.Run.{Run}
-use Rattle.past.specs.Runs.{Whole}
+use Rattle.slots.specs.Runs.{Whole}
 use Rattle.instants.specs.Best.{chosen-best}
 use Rattle.instants.specs.Runs.{onward-then}
-use Rattle.instants.specs.Steps.{kindOf, clean, overflowed, undated, onward, goes, divides, sourced, lacking, begun, chosen, worked, endedIn, finish, finished, advanced, tick, withDone}
+use Rattle.instants.specs.Steps.{kindOf, clean, overflowed, undated, onward, goes, divides, sourced, lacking, begun, chosen, worked, endedIn, ended, finish, finished, advanced, tick, withDone}
 use Rattle.instants.specs.declared.Outcome.{Outcome}
 use Rattle.instants.specs.declared.Outcome.the-variants.{Clean, Overflowed, NoDeadline}
 use Rattle.instants.specs.declared.Ticked.{Ticked}
+
+-- what a step of a tick needs: an accepted chain, whole arrays, no queue above its capacity, and less work done of each node than its execution time
+pub record Filled (c : Chain) (s : Run) : Type 0 where
+  pub chain : Accepted c
+  pub whole : Whole s
+  pub within : (j : ℕ) → j < c .n → heldAt s j ≤ capacityOf (rowOf c j)
+  pub below : (j : ℕ) → j < c .n → doneAt s j < workOf c j
+
+-- "each queue holds what its producer's firings put in less what its consumer's took out", of every queue
+abbrev pub Balanced : Chain → Run → Type 0
+Balanced c s = (j : ℕ) → j < c .n → Balance c s j
 
 -- an accepted chain, and a state of it that passes 17
 pub record Running (c : Chain) (s : Run) : Type 0 where
@@ -57,37 +78,58 @@ pub record Running (c : Chain) (s : Run) : Type 0 where
   pub whole : Whole s
   pub state : StateSound c s
 
-pub running-slots : {c : Chain} {s : Run} → Running c s → Slots (c .n) s
-running-slots r = record { counts = omega (arith, r .whole .counts, r .chain .chain .count .1); held = omega (arith, r .whole .held, r .chain .chain .count .1) }
+-- which is both
+module _ {c : Chain} {s : Run} where
+  pub running-filled : Running c s → Filled c s
+  running-filled r = record { chain = r .chain; whole = r .whole; within = λ j l. r .state j l .0 .1; below = λ j l. r .state j l .1 }
 
--- a firing of a node leaves no queue with a reason of 17
-module _ {c : Chain} {s : Run} (r : Running c s) (i : ℕ) (o : Over c s i) (m : Room c s i) where
+  pub running-balanced : Running c s → Balanced c s
+  running-balanced r j l = r .state j l .0 .0
+
+  pub filled-running : Filled c s → Balanced c s → Running c s
+  filled-running f b = record { chain = f .chain; whole = f .whole; state = λ j l. ((b j l, f .within j l), f .below j l) }
+
+-- a firing of a node
+module _ {c : Chain} {s : Run} (f : Filled c s) (i : ℕ) (o : Over c s i) where
   sound : Sound c
-  sound = r .chain .chain
+  sound = f .chain .chain
 
-  -- a firing finds what it takes
+  slots : Slots (c .n) s
+  slots = record { counts = omega (arith, f .whole .counts, sound .count .1); held = omega (arith, f .whole .held, sound .count .1) }
+
+  -- it finds what it takes
   enough : (j : ℕ) → j < c .n → i ≡ suc j → rowOf c j .consume ≤ heldAt s j
   enough j l e = over-enough sound s j l (subst (Over c s) e o)
 
-  filled : (j : ℕ) → j < c .n → heldAt (fired c s i) j ≤ capacityOf (rowOf c j)
-  filled j l = by-cases (ℕ-discrete j i)
-      (λ e. rw (e, held-output c s i (omega arith) (omega (arith, r .whole .held, sound .count .1))) (m (omega arith)))
-      (λ ne. by-cases (ℕ-discrete (suc j) i)
-      (λ e. omega (
-        arith,
-        subst (λ (k : ℕ). heldAt (fired c s k) j + rowOf c j .consume ≡ heldAt s j) e
-            (held-input c s j (omega (arith, r .whole .held, sound .count .1)) (enough j l (sym e))),
-        r .state j l .0 .1,
-      ))
-      (λ ne′. rw (held-other c s i j ne ne′) (r .state j l .0 .1)))
+  pub fired-balanced : Balanced c s → Balanced c (fired c s i)
+  fired-balanced b j l = balance-kept c s i j slots l (enough j l) (b j l)
 
-  pub fired-running : Running c (fired c s i)
-  unfolding fired
-  fired-running = record {
-    chain = r .chain;
-    whole = record { counts = counts-length c s i ∙ r .whole .counts; held = holds-length c s i ∙ r .whole .held; done = r .whole .done };
-    state = λ j l. ((balance-kept c s i j (running-slots r) l (enough j l) (r .state j l .0 .0), filled j l), r .state j l .1);
-  }
+  -- with room, it leaves no queue above its capacity
+  module _ (m : Room c s i) where
+    within : (j : ℕ) → j < c .n → heldAt (fired c s i) j ≤ capacityOf (rowOf c j)
+    within j l = by-cases (ℕ-discrete j i)
+        (λ e. rw (e, held-output c s i (omega arith) (omega (arith, f .whole .held, sound .count .1))) (m (omega arith)))
+        (λ ne. by-cases (ℕ-discrete (suc j) i)
+        (λ e. omega (
+          arith,
+          subst (λ (k : ℕ). heldAt (fired c s k) j + rowOf c j .consume ≡ heldAt s j) e
+              (held-input c s j (omega (arith, f .whole .held, sound .count .1)) (enough j l (sym e))),
+          f .within j l,
+        ))
+        (λ ne′. rw (held-other c s i j ne ne′) (f .within j l)))
+
+    pub fired-filled : Filled c (fired c s i)
+    unfolding fired
+    fired-filled = record {
+      chain = f .chain;
+      whole = record { counts = counts-length c s i ∙ f .whole .counts; held = holds-length c s i ∙ f .whole .held; done = f .whole .done };
+      within = within;
+      below = f .below;
+    }
+
+-- so a state that passes 17 passes it after the firing
+pub fired-running : {c : Chain} {s : Run} → Running c s → (i : ℕ) → Over c s i → Room c s i → Running c (fired c s i)
+fired-running r i o m = filled-running (fired-filled (running-filled r) i o m) (fired-balanced (running-filled r) i o (running-balanced r))
 
 -- a queue that is not full for N_i has room for it
 pub room-of : (c : Chain) (s : Run) (i : ℕ) → cramped c s i ≡ false → Room c s i
@@ -133,34 +175,54 @@ sourced-held c s j l = source-cases c s (λ x. heldAt (x .run) j ≡ heldAt s j)
 pub sourced-stays : (c : Chain) (s : Run) → (sourced c s .outcome ≡ Clean → ⊥) → sourced c s .run ≡ s
 sourced-stays c s = source-cases c s (λ x. (x .outcome ≡ Clean → ⊥) → x .run ≡ s) (λ e n. refl) (λ e n. absurd (n refl)) (λ n. refl)
 
+-- the source may fire where its production fits
+pub source-may : (c : Chain) (s : Run) → countAt s 0 ≢ limit → cramped c s 0 ≡ false → May c s 0
+source-may c s n e = record { node = omega arith; countable = n; over = tt; room = room-of c s 0 e }
+
 -- what the source's step leaves where it is clean
 pub record SourceStep (c : Chain) (s u : Run) : Type 0 where
-  pub running : Running c u
+  pub filled : Filled c u
+  pub balanced : Balanced c s → Balanced c u
   pub clock : u .clock ≡ s .clock
   pub done : u .done ≡ s .done
   pub source : countAt u 0 ≤ suc (countAt s 0)
   pub others : (i : ℕ) → 0 < i → countAt u i ≡ countAt s i
 
-module _ {c : Chain} {s : Run} (r : Running c s) where
-  -- the source may fire where its production fits
-  pub source-may : countAt s 0 ≢ limit → cramped c s 0 ≡ false → May c s 0
-  source-may n e = record { node = omega arith; countable = n; over = tt; room = room-of c s 0 e }
-
+module _ {c : Chain} {s : Run} (f : Filled c s) where
   source-rests : SourceStep c s s
-  source-rests = record { running = r; clock = refl; done = refl; source = omega arith; others = λ i l. refl }
+  source-rests = record { filled = f; balanced = λ b. b; clock = refl; done = refl; source = omega arith; others = λ i l. refl }
 
   source-fires : Room c s 0 → SourceStep c s (fired c s 0)
   unfolding fired
   source-fires m = record {
-    running = fired-running r 0 tt m;
+    filled = fired-filled f 0 tt m;
+    balanced = fired-balanced f 0 tt;
     clock = refl;
     done = refl;
-    source = omega (arith, count-fired c s 0 (omega (arith, r .whole .counts)));
+    source = omega (arith, count-fired c s 0 (omega (arith, f .whole .counts)));
     others = λ i l. count-other c s 0 i (λ e. omega arith);
   }
 
   pub sourced-clean : sourced c s .outcome ≡ Clean → SourceStep c s (sourced c s .run)
   sourced-clean = source-cases c s (λ x. x .outcome ≡ Clean → SourceStep c s (x .run)) (λ e h. absurd (unclean-overflow h)) (λ e h. source-fires (room-of c s 0 e)) (λ h. source-rests)
+
+pub source-running : {c : Chain} {s u : Run} → Running c s → SourceStep c s u → Running c u
+source-running r k = filled-running (k .filled) (k .balanced (running-balanced r))
+
+-- what follows a clean outcome, and that nothing follows another
+module _ (r : Ticked) (f : Run → Ticked) where
+  pub goes-on : r .outcome ≡ Clean → onward r f ≡ f (r .run)
+  unfolding onward goes
+  goes-on h = ap (λ (o : Outcome). goes o (r .run) f) h
+
+  pub goes-no-further : (r .outcome ≡ Clean → ⊥) → onward r f ≡ r
+  unfolding onward
+  goes-no-further = by (r .outcome) (r .run)
+    where
+      by : (o : Outcome) (u : Run) → (o ≡ Clean → ⊥) → goes o u f ≡ record { outcome = o; run = u }
+      by Clean u n = absurd (n refl)
+      by (Overflowed t q) u n = refl
+      by (NoDeadline t i) u n = refl
 
 -- what goes on was clean
 pub onward-cases : (r : Ticked) (f : Run → Ticked) → onward r f .outcome ≡ Clean → (r .outcome ≡ Clean) × ((f (r .run) .outcome ≡ Clean) × (onward r f ≡ f (r .run)))
@@ -188,6 +250,23 @@ begun-clean c s h =
         → Silent (lacking c (sourced c s .run)) × (cond b (clean (sourced c s .run)) (undated s (s .clock) (lacking c (sourced c s .run) .place)) ≡ clean (sourced c s .run))
     by true e h = (eqb-true _ _ e, refl)
     by false e h = absurd (unclean-undated h)
+
+-- what they leave in each of their three cases: an outcome of the source's step, 13 silent, and 13 of node i
+module _ (c : Chain) (s : Run) where
+  pub begun-over : (sourced c s .outcome ≡ Clean → ⊥) → begun c s ≡ sourced c s
+  unfolding begun
+  begun-over n = goes-no-further (sourced c s) _ n
+
+  module _ (h : sourced c s .outcome ≡ Clean) where
+    dated-after : begun c s ≡ cond (eqb (lacking c (sourced c s .run) .number) 0) (clean (sourced c s .run)) (undated s (s .clock) (lacking c (sourced c s .run) .place))
+    unfolding begun
+    dated-after = goes-on (sourced c s) _ h
+
+    pub begun-silent : Silent (lacking c (sourced c s .run)) → begun c s ≡ clean (sourced c s .run)
+    begun-silent z = dated-after ∙ simp (eq-eqb _ _ z)
+
+    pub begun-undated : (i : ℕ) → lacking c (sourced c s .run) ≡ refused 13 i → begun c s ≡ undated s (s .clock) i
+    begun-undated i e = dated-after ∙ ap (λ (x : Refusal). cond (eqb (x .number) 0) (clean (sourced c s .run)) (undated s (s .clock) (x .place))) e
 
 -- an outcome of the source's step leaves the state as it was, and so does 13
 pub begun-stays : (c : Chain) (s : Run) → (begun c s .outcome ≡ Clean → ⊥) → begun c s .run ≡ s
@@ -256,16 +335,21 @@ module _ (s : Run) where
   worked-deep zero = refl
   worked-deep (suc j) = length-set (s .done) j (doneAt s j + 1)
 
--- a state with the counts and contents of one that passes 17, and work below e, passes it
-running-as : {c : Chain} {u w : Run} → Running c u → w .counts ≡ u .counts → w .held ≡ u .held → length (w .done) ≡ length (u .done) → ((j : ℕ) → j < c .n → doneAt w j < workOf c j) → Running c w
-running-as {c} {u} {w} r counts held deep below = record {
-  chain = r .chain;
-  whole = record { counts = ap length counts ∙ r .whole .counts; held = ap length held ∙ r .whole .held; done = deep ∙ r .whole .done };
-  state = λ j l. (rw (at counts j, at counts (suc j), at held j) (r .state j l .0), below j l);
-}
-  where
-    at : {a b : List ℕ} → a ≡ b → (j : ℕ) → getD a j 0 ≡ getD b j 0
-    at e j = ap (λ (x : List ℕ). getD x j 0) e
+-- what a state with the same counts and contents keeps
+at : {a b : List ℕ} → a ≡ b → (j : ℕ) → getD a j 0 ≡ getD b j 0
+at e j = ap (λ (x : List ℕ). getD x j 0) e
+
+module _ (c : Chain) (u w : Run) (counts : w .counts ≡ u .counts) (held : w .held ≡ u .held) where
+  balanced-as : Balanced c u → Balanced c w
+  balanced-as b j l = rw (at counts j, at counts (suc j), at held j) (b j l)
+
+  pub filled-as : Filled c u → length (w .done) ≡ length (u .done) → ((j : ℕ) → j < c .n → doneAt w j < workOf c j) → Filled c w
+  filled-as f deep below = record {
+    chain = f .chain;
+    whole = record { counts = ap length counts ∙ f .whole .counts; held = ap length held ∙ f .whole .held; done = deep ∙ f .whole .done };
+    within = λ j l. rw (at held j) (f .within j l);
+    below = below;
+  }
 
 -- what a firing takes was there when its node was chosen, and its production fits where it did after the work
 finish-over : (c : Chain) (u : Run) (j : ℕ) → Over c u (suc j) → Over c (withDone (worked u (suc j)) j 0) (suc j)
@@ -276,52 +360,74 @@ finish-room : (c : Chain) (u : Run) (j : ℕ) → cramped c (worked u (suc j)) (
 unfolding cramped worked
 finish-room c u j e = room-of c (withDone (worked u (suc j)) j 0) (suc j) e
 
-module _ {c : Chain} {u : Run} (r : Running c u) where
+module _ {c : Chain} {u : Run} (f : Filled c u) where
   below-else : (i j : ℕ) → j < c .n → i ≢ suc j → doneAt (worked u i) j < workOf c j
-  below-else i j l ne = rw (worked-other u i j ne) (r .state j l .1)
+  below-else i j l ne = rw (worked-other u i j ne) (f .below j l)
 
   same-done : (j : ℕ) → j < c .n → doneAt (worked u (suc j)) j ≡ doneAt u j + 1
-  same-done j l = worked-same u j (omega (arith, r .whole .done, r .chain .chain .count .1))
+  same-done j l = worked-same u j (omega (arith, f .whole .done, f .chain .chain .count .1))
 
   -- a firing that is not finished: the work is kept, and nothing takes effect
   module _ (i : ℕ) (less : (j : ℕ) → j < c .n → i ≡ suc j → doneAt u j + 1 < workOf c j) where
     below : (j : ℕ) → j < c .n → doneAt (worked u i) j < workOf c j
     below j l = by-cases (ℕ-discrete i (suc j)) (λ e. rw (e, same-done j l) (less j l e)) (λ ne. below-else i j l ne)
 
-    pub works-running : Running c (worked u i)
-    works-running = running-as r (worked-counts u i) (worked-held u i) (worked-deep u i) below
+    pub works-filled : Filled c (worked u i)
+    works-filled = filled-as c u (worked u i) (worked-counts u i) (worked-held u i) f (worked-deep u i) below
+
+    pub works-unended : ended c (worked u i) ≡ 0
+    works-unended = ended-none c (worked u i) (c .n) below
 
     pub works-on : finished c (worked u i) ≡ clean (worked u i)
     unfolding finished finish
-    works-on = ap (finish c (worked u i)) (ended-none c (worked u i) (c .n) below)
+    works-on = ap (finish c (worked u i)) works-unended
 
   -- a firing that is finished takes effect, if it fits; its work is cleared before
   module _ (j : ℕ) (l : j < c .n) (all : doneAt u j + 1 ≡ workOf c j) where
+    pub works-ended : ended c (worked u (suc j)) ≡ suc j
+    works-ended = ended-one c (worked u (suc j)) (c .n) j l (omega (arith, all, same-done j l)) (λ k m ne. below-else (suc j) k m (λ e. ne (omega arith)))
+
     pub works-ends : finished c (worked u (suc j)) ≡ finish c (worked u (suc j)) (suc j)
     unfolding finished
-    works-ends = ap (finish c (worked u (suc j))) (ended-one c (worked u (suc j)) (c .n) j l (omega (arith, all, same-done j l)) (λ k m ne. below-else (suc j) k m (λ e. ne (omega arith))))
+    works-ends = ap (finish c (worked u (suc j))) works-ended
 
-    pub cleared-running : Running c (withDone (worked u (suc j)) j 0)
-    cleared-running = running-as r (worked-counts u (suc j)) (worked-held u (suc j)) (length-set (worked u (suc j) .done) j 0 ∙ worked-deep u (suc j)) low
+    pub cleared-filled : Filled c (withDone (worked u (suc j)) j 0)
+    cleared-filled = filled-as c u (withDone (worked u (suc j)) j 0) (worked-counts u (suc j)) (worked-held u (suc j)) f (length-set (worked u (suc j) .done) j 0 ∙ worked-deep u (suc j)) low
       where
         low : (k : ℕ) → k < c .n → doneAt (withDone (worked u (suc j)) j 0) k < workOf c k
         low k m = by-cases (ℕ-discrete k j)
-            (λ e. rw (e, getD-set-same (worked u (suc j) .done) j 0 0 (omega (arith, worked-deep u (suc j), r .whole .done, r .chain .chain .count .1))) (r .chain .chain .work j l .0))
+            (λ e. rw (e, getD-set-same (worked u (suc j) .done) j 0 0 (omega (arith, worked-deep u (suc j), f .whole .done, f .chain .chain .count .1))) (f .chain .chain .work j l .0))
             (λ ne. rw (getD-set-other (worked u (suc j) .done) j k 0 0 ne) (below-else (suc j) k m (λ e. ne (omega arith))))
 
-    -- its node may fire where its count can grow and its production fits
-    pub finish-may : Over c u (suc j) → countAt u (suc j) ≢ limit → cramped c (worked u (suc j)) (suc j) ≡ false → May c (withDone (worked u (suc j)) j 0) (suc j)
-    unfolding worked
-    finish-may o n e = record { node = l; countable = n; over = o; room = finish-room c u j e }
+-- its node may fire where its count can grow and its production fits
+pub finish-may : (c : Chain) (u : Run) (j : ℕ) → j < c .n → Over c u (suc j) → countAt u (suc j) ≢ limit → cramped c (worked u (suc j)) (suc j) ≡ false → May c (withDone (worked u (suc j)) j 0) (suc j)
+unfolding worked
+finish-may c u j l o n e = record { node = l; countable = n; over = o; room = finish-room c u j e }
+
+-- a state that passes 17 passes it with that work cleared
+cleared-balanced : (c : Chain) (u : Run) (j : ℕ) → Balanced c u → Balanced c (withDone (worked u (suc j)) j 0)
+cleared-balanced c u j = balanced-as c u (withDone (worked u (suc j)) j 0) (worked-counts u (suc j)) (worked-held u (suc j))
+
+pub cleared-running : {c : Chain} {u : Run} → Running c u → (j : ℕ) → j < c .n → doneAt u j + 1 ≡ workOf c j → Running c (withDone (worked u (suc j)) j 0)
+cleared-running {c} {u} r j l all = filled-running (cleared-filled (running-filled r) j l all) (cleared-balanced c u j (running-balanced r))
 
 -- the source's step and 13, and then the work of the node chosen and its effect
 pub tick-begun : (c : Chain) (s : Run) → tick c s ≡ onward (begun c s) (λ u. finished c (worked u (chosen c u)))
 unfolding tick advanced onward
 tick-begun c s = onward-then (begun c s) (λ u. clean (worked u (chosen c u))) (finished c)
 
--- what a tick leaves where it is clean: a state that passes 17 one tick later, no node having fired more than once
+-- a tick that ends with the outcome of the source's step or of 13, and one that goes on
+module _ (c : Chain) (s : Run) where
+  pub tick-ends : (begun c s .outcome ≡ Clean → ⊥) → tick c s ≡ begun c s
+  tick-ends n = tick-begun c s ∙ goes-no-further (begun c s) _ n
+
+  pub tick-works : begun c s .outcome ≡ Clean → tick c s ≡ finished c (worked (begun c s .run) (chosen c (begun c s .run)))
+  tick-works e = tick-begun c s ∙ goes-on (begun c s) _ e
+
+-- what a tick leaves where it is clean, one tick later, no node having fired more than once
 pub record TickStep (c : Chain) (s t : Run) : Type 0 where
-  pub running : Running c t
+  pub filled : Filled c t
+  pub balanced : Balanced c s → Balanced c t
   pub clock : t .clock ≡ s .clock + 1
   pub counts : (i : ℕ) → i ≤ c .n → countAt t i ≤ suc (countAt s i)
 
@@ -342,20 +448,27 @@ module _ {c : Chain} {s u : Run} (k : SourceStep c s u) where
   unchanged w e (suc i) = omega (arith, ap (λ (l : List ℕ). getD l (suc i) 0) e, k .others (suc i) (omega arith))
 
   -- nothing took effect
-  rests : (i : ℕ) → Running c (worked u i) → TickStep c s (worked u i)
-  rests i r = record { running = r; clock = worked-clock u i ∙ ap (λ (t : ℕ). t + 1) (k .clock); counts = λ j l. unchanged (worked u i) (worked-counts u i) j }
+  rests : (i : ℕ) → Filled c (worked u i) → TickStep c s (worked u i)
+  rests i f = record {
+    filled = f;
+    balanced = λ b. balanced-as c u (worked u i) (worked-counts u i) (worked-held u i) (k .balanced b);
+    clock = worked-clock u i ∙ ap (λ (t : ℕ). t + 1) (k .clock);
+    counts = λ j l. unchanged (worked u i) (worked-counts u i) j;
+  }
 
   module _ (j : ℕ) (l : j < c .n) (all : doneAt u j + 1 ≡ workOf c j) (o : Over c u (suc j)) where
     fires-step : cramped c (worked u (suc j)) (suc j) ≡ false → TickStep c s (fired c (withDone (worked u (suc j)) j 0) (suc j))
     fires-step e =
         let v : Run = withDone (worked u (suc j)) j 0 in
         let other : countAt u (suc j) ≡ countAt s (suc j) = k .others (suc j) (omega arith) in
-        let r : Running c v = cleared-running (k .running) j l all in
+        let f : Filled c v = cleared-filled (k .filled) j l all in
+        let over : Over c v (suc j) = finish-over c u j o in
         let room : Room c v (suc j) = finish-room c u j e in
-        let once : countAt (fired c v (suc j)) (suc j) ≡ countAt v (suc j) + 1 = count-fired c v (suc j) (omega (arith, r .whole .counts, r .chain .chain .count .1)) in
+        let once : countAt (fired c v (suc j)) (suc j) ≡ countAt v (suc j) + 1 = count-fired c v (suc j) (omega (arith, f .whole .counts, f .chain .chain .count .1)) in
         let same : countAt v (suc j) ≡ countAt u (suc j) = ap (λ (x : List ℕ). getD x (suc j) 0) (worked-counts u (suc j)) in
         record {
-          running = fired-running r (suc j) (finish-over c u j o) room;
+          filled = fired-filled f (suc j) over room;
+          balanced = λ b. fired-balanced f (suc j) over (cleared-balanced c u j (k .balanced b));
           clock = fired-clock c v (suc j) ∙ worked-clock u (suc j) ∙ ap (λ (t : ℕ). t + 1) (k .clock);
           counts = λ i f. by-cases (ℕ-discrete i (suc j))
               (λ e. rw e (omega (arith, once, same, other)))
@@ -366,28 +479,30 @@ module _ {c : Chain} {s u : Run} (k : SourceStep c s u) where
     ends = finish-cases c (worked u (suc j)) j (λ x. x .outcome ≡ Clean → TickStep c s (x .run)) (λ e h. absurd (unclean-overflow h)) (λ e h. fires-step e)
 
   -- the whole step of work, of the node that was chosen
-  works-step : (i : ℕ) → i ≤ c .n → ((j : ℕ) → i ≡ suc j → Over c u (suc j)) → finished c (worked u i) .outcome ≡ Clean → TickStep c s (finished c (worked u i) .run)
+  pub works-step : (i : ℕ) → i ≤ c .n → ((j : ℕ) → i ≡ suc j → Over c u (suc j)) → finished c (worked u i) .outcome ≡ Clean → TickStep c s (finished c (worked u i) .run)
   works-step zero low o h =
-      let on : finished c (worked u 0) ≡ clean (worked u 0) = works-on (k .running) 0 (λ j l e. absurd (omega arith)) in
-      subst (λ (x : Ticked). TickStep c s (x .run)) (sym on) (rests 0 (works-running (k .running) 0 (λ j l e. absurd (omega arith))))
+      let on : finished c (worked u 0) ≡ clean (worked u 0) = works-on (k .filled) 0 (λ j l e. absurd (omega arith)) in
+      subst (λ (x : Ticked). TickStep c s (x .run)) (sym on) (rests 0 (works-filled (k .filled) 0 (λ j l e. absurd (omega arith))))
   works-step (suc j) low o h = by-cases (ℕ-discrete (doneAt u j + 1) (workOf c j))
       (λ all.
-      let e : finished c (worked u (suc j)) ≡ finish c (worked u (suc j)) (suc j) = works-ends (k .running) j low all in
+      let e : finished c (worked u (suc j)) ≡ finish c (worked u (suc j)) (suc j) = works-ends (k .filled) j low all in
       subst (λ (x : Ticked). TickStep c s (x .run)) (sym e) (ends j low all (o j refl) (ap (λ (x : Ticked). x .outcome) (sym e) ∙ h)))
       (λ ne.
       let less : (m : ℕ) → m < c .n → suc j ≡ suc m → doneAt u m + 1 < workOf c m =
-      λ m f e. let z : j ≡ m = omega arith in subst (λ (x : ℕ). doneAt u x + 1 < workOf c x) z (omega (arith, ne, k .running .state j low .1)) in
-      let on : finished c (worked u (suc j)) ≡ clean (worked u (suc j)) = works-on (k .running) (suc j) less in
-      subst (λ (x : Ticked). TickStep c s (x .run)) (sym on) (rests (suc j) (works-running (k .running) (suc j) less)))
+      λ m f e. let z : j ≡ m = omega arith in subst (λ (x : ℕ). doneAt u x + 1 < workOf c x) z (omega (arith, ne, k .filled .below j low)) in
+      let on : finished c (worked u (suc j)) ≡ clean (worked u (suc j)) = works-on (k .filled) (suc j) less in
+      subst (λ (x : Ticked). TickStep c s (x .run)) (sym on) (rests (suc j) (works-filled (k .filled) (suc j) less)))
 
-module _ {c : Chain} {s : Run} (r : Running c s) where
-  -- a clean tick leaves a state that passes 17
-  pub tick-step : tick c s .outcome ≡ Clean → TickStep c s (tick c s .run)
-  tick-step h =
-      let o = onward-cases (begun c s) (λ u. finished c (worked u (chosen c u))) (ap (λ (x : Ticked). x .outcome) (sym (tick-begun c s)) ∙ h) in
-      let b = begun-clean c s (o .0) in
-      let u : Run = sourced c s .run in
-      let f : tick c s ≡ finished c (worked u (chosen c u)) = tick-begun c s ∙ o .1 .1 ∙ ap (λ (x : Ticked). finished c (worked (x .run) (chosen c (x .run)))) (b .1 .1) in
-      let step : SourceStep c s u = sourced-clean r (b .0) in
-      subst (λ (x : Ticked). TickStep c s (x .run)) (sym f)
-      (works-step step (chosen c u) (chosen-low c u) (chosen-over c u) (ap (λ (x : Ticked). x .outcome) (sym f) ∙ h))
+-- the whole tick
+pub tick-step : {c : Chain} {s : Run} → Filled c s → tick c s .outcome ≡ Clean → TickStep c s (tick c s .run)
+tick-step {c} {s} f h =
+    let o = onward-cases (begun c s) (λ u. finished c (worked u (chosen c u))) (ap (λ (x : Ticked). x .outcome) (sym (tick-begun c s)) ∙ h) in
+    let b = begun-clean c s (o .0) in
+    let u : Run = sourced c s .run in
+    let e : tick c s ≡ finished c (worked u (chosen c u)) = tick-begun c s ∙ o .1 .1 ∙ ap (λ (x : Ticked). finished c (worked (x .run) (chosen c (x .run)))) (b .1 .1) in
+    let step : SourceStep c s u = sourced-clean f (b .0) in
+    subst (λ (x : Ticked). TickStep c s (x .run)) (sym e)
+    (works-step step (chosen c u) (chosen-low c u) (chosen-over c u) (ap (λ (x : Ticked). x .outcome) (sym e) ∙ h))
+
+pub tick-running : {c : Chain} {s : Run} → Running c s → tick c s .outcome ≡ Clean → Running c (tick c s .run)
+tick-running r h = let k = tick-step (running-filled r) h in filled-running (k .filled) (k .balanced (running-balanced r))

@@ -19,7 +19,7 @@ use Rattle.state.specs.State.{countAt}
 use Rattle.state.specs.Fired.{Over}
 use Rattle.state.specs.Checks.{over, over-true}
 use Rattle.state.specs.declared.Run.{Run}
-use Rattle.deadlines.specs.Deadline.{indexCheck, index, index-exact, index-silent, index-only}
+use Rattle.deadline.specs.Deadline.{indexCheck, index, index-exact, index-silent, index-only}
 use Rattle.instants.specs.Steps.{next, lackingTest, lacking}
 
 -- "a deadline index passes 4,294,967,295": no index on the way down from N_i's next firing to the source does

@@ -14,3 +14,4 @@ pub mod Once
 pub mod Exactly
 pub mod Answers
 pub mod Totals
+pub mod Quiet

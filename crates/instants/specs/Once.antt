@@ -22,12 +22,12 @@ use Rattle.state.specs.State.{countAt, heldAt, doneAt, same-run}
 use Rattle.state.specs.Fired.{fired, Over, over-enough, count-fired, count-other, held-output, held-input, held-other, held-sink}
 use Rattle.state.specs.Checks.{over, over-true}
 use Rattle.state.specs.declared.Run.{Run}
-use Rattle.past.specs.Runs.{Whole}
-use Rattle.deadlines.specs.Deadline.{deadline}
+use Rattle.slots.specs.Runs.{Whole}
+use Rattle.deadline.specs.Deadline.{deadline}
 use Rattle.instants.specs.Best.{Best, chosen-best, chosen-only}
 use Rattle.instants.specs.Steps.{chosen, withDone, next, worked, finish, finished}
-use Rattle.instants.specs.Kept.{Running, finish-cases, worked-counts, worked-held, worked-clock, worked-other}
-use Rattle.instants.specs.Kept.{worked-same, works-on, works-running, works-ends, cleared-running, unclean-overflow}
+use Rattle.instants.specs.Kept.{Filled, finish-cases, worked-counts, worked-held, worked-clock, worked-other}
+use Rattle.instants.specs.Kept.{worked-same, works-on, works-filled, works-ends, cleared-filled, unclean-overflow}
 use Rattle.instants.specs.declared.Outcome.the-variants.{Clean}
 use Rattle.instants.specs.declared.Ticked.{Ticked}
 use Rattle.instants.specs.Source.{Due, Fits, SourceOnce, fired-whole}
@@ -79,11 +79,11 @@ pub record WorkOnce (c : Chain) (u : Run) (w : ℕ) (t : Run) : Type 0 where
   pub on : (j : ℕ) → w ≡ suc j → doneAt u j + 1 ≢ workOf c j → (doneAt t j ≡ doneAt u j + 1) × ((t .counts ≡ u .counts) × (t .held ≡ u .held))
   pub ends : (j : ℕ) → w ≡ suc j → doneAt u j + 1 ≡ workOf c j → Effect c u j t
 
-module _ {c : Chain} {u : Run} (r : Running c u) where
+module _ {c : Chain} {u : Run} (r : Filled c u) where
   -- no node works
   work-idle : WorkOnce c u 0 (worked u 0)
   work-idle = record {
-    whole = works-running r 0 (λ j l e. absurd (omega arith)) .whole;
+    whole = works-filled r 0 (λ j l e. absurd (omega arith)) .whole;
     clock = worked-clock u 0;
     others = λ k ne. worked-other u 0 k ne;
     idle = λ e. (worked-counts u 0, worked-held u 0);
@@ -97,11 +97,11 @@ module _ {c : Chain} {u : Run} (r : Running c u) where
 
     -- a firing that is not finished
     less : doneAt u j + 1 ≢ workOf c j → (m : ℕ) → m < c .n → suc j ≡ suc m → doneAt u m + 1 < workOf c m
-    less ne m f e = let z : j ≡ m = omega arith in subst (λ (x : ℕ). doneAt u x + 1 < workOf c x) z (omega (arith, ne, r .state j l .1))
+    less ne m f e = let z : j ≡ m = omega arith in subst (λ (x : ℕ). doneAt u x + 1 < workOf c x) z (omega (arith, ne, r .below j l))
 
     work-on : doneAt u j + 1 ≢ workOf c j → WorkOnce c u (suc j) (worked u (suc j))
     work-on ne = record {
-      whole = works-running r (suc j) (less ne) .whole;
+      whole = works-filled r (suc j) (less ne) .whole;
       clock = worked-clock u (suc j);
       others = λ k f. worked-other u (suc j) k f;
       idle = λ e. absurd (omega arith);
@@ -116,8 +116,8 @@ module _ {c : Chain} {u : Run} (r : Running c u) where
       abbrev cleared : Run
       cleared = withDone (worked u (suc j)) j 0
 
-      k : Running c cleared
-      k = cleared-running r j l all
+      k : Filled c cleared
+      k = cleared-filled r j l all
 
       same-count : (m : ℕ) → countAt cleared m ≡ countAt u m
       same-count m = ap (λ (x : List ℕ). getD x m 0) (worked-counts u (suc j))
@@ -161,7 +161,7 @@ module _ {c : Chain} {u : Run} (r : Running c u) where
       subst (λ (x : Ticked). WorkOnce c u (suc j) (x .run)) (sym e)
       (finish-cases c (worked u (suc j)) j (λ x. x .outcome ≡ Clean → WorkOnce c u (suc j) (x .run))
       (λ f z. absurd (unclean-overflow z))
-      (λ f z. work-ends j low all (o (zero-lt-suc j)) _ refl (fired-whole c (withDone (worked u (suc j)) j 0) (suc j) (cleared-running r j low all .whole)))
+      (λ f z. work-ends j low all (o (zero-lt-suc j)) _ refl (fired-whole c (withDone (worked u (suc j)) j 0) (suc j) (cleared-filled r j low all .whole)))
       (ap (λ (x : Ticked). x .outcome) (sym e) ∙ h)))
       (λ ne. subst (λ (x : Ticked). WorkOnce c u (suc j) (x .run)) (sym (works-on r (suc j) (less j low ne))) (work-on j low ne))
 

@@ -14,9 +14,9 @@ use Rattle.chain.specs.declared.Chain.{Chain}
 use Rattle.state.specs.Fired.{fired, Over}
 use Rattle.state.specs.Checks.{over}
 use Rattle.state.specs.declared.Run.{Run}
-use Rattle.deadlines.specs.Deadline.{indexCheck}
+use Rattle.deadline.specs.Deadline.{indexCheck}
 use Rattle.instants.specs.Steps.{clean, overflowed, undated, onward, next, lackingTest, lacking, begun, chosen, worked, finished, tick}
-use Rattle.instants.specs.Kept.{Running, fired-running, tick-begun}
+use Rattle.instants.specs.Kept.{Running, running-filled, fired-running, tick-begun}
 use Rattle.instants.specs.Lacking.{Within, FirstLacking, within-is, lacking-exact, lacking-silent}
 use Rattle.instants.specs.declared.Ticked.{Ticked}
 use Rattle.instants.specs.Source.{Due, Full, Fits, source-three, SourceOnce, once-fires, once-rests}
@@ -53,9 +53,9 @@ module _ {c : Chain} {s : Run} (r : Running c s) where
       → ((u : Run) → (Due c s → Fits c s) → SourceOnce c s u → Running c u → Dated c u → P (finished c (worked u (chosen c u)))) → P (tick c s)
   unfolding begun onward
   tick-three P spills lacks works = subst P (sym (tick-begun c s))
-      (source-three r (λ x. P (onward (onward x dates) work)) spills
-      (λ d f. by (fired c s 0) (λ z. f) (once-fires r d) (fired-running r 0 tt (λ l. f)) (eqb (lacking c (fired c s 0) .number) 0) refl)
-      (λ n. by s (λ d. absurd (n d)) (once-rests r n) r (eqb (lacking c s .number) 0) refl))
+      (source-three (running-filled r) (λ x. P (onward (onward x dates) work)) spills
+      (λ d f. by (fired c s 0) (λ z. f) (once-fires (running-filled r) d) (fired-running r 0 tt (λ l. f)) (eqb (lacking c (fired c s 0) .number) 0) refl)
+      (λ n. by s (λ d. absurd (n d)) (once-rests (running-filled r) n) r (eqb (lacking c s .number) 0) refl))
     where
       work : Run → Ticked
       work u = finished c (worked u (chosen c u))

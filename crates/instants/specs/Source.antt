@@ -24,9 +24,9 @@ use Rattle.state.specs.State.{countAt, heldAt, same-run}
 use Rattle.state.specs.Fired.{fired, count-fired, count-other, held-output, held-other, counts-length, holds-length}
 use Rattle.state.specs.Checks.{cramped}
 use Rattle.state.specs.declared.Run.{Run}
-use Rattle.past.specs.Runs.{Whole}
+use Rattle.slots.specs.Runs.{Whole}
 use Rattle.instants.specs.Steps.{clean, overflowed, divides, sourced}
-use Rattle.instants.specs.Kept.{Running, room-of, unclean-overflow}
+use Rattle.instants.specs.Kept.{Filled, room-of, unclean-overflow}
 use Rattle.instants.specs.declared.Ticked.{Ticked}
 
 -- "if y divides t"
@@ -44,10 +44,10 @@ Full c s = capacityOf (rowOf c 0) < heldAt s 0 + rowOf c 0 .produce
 abbrev pub Fits : Chain → Run → Type 0
 Fits c s = heldAt s 0 + rowOf c 0 .produce ≤ capacityOf (rowOf c 0)
 
-module _ {c : Chain} {s : Run} (r : Running c s) where
+module _ {c : Chain} {s : Run} (f : Filled c s) where
   -- a chain has a queue
   some-queue : 0 < c .n
-  some-queue = r .chain .chain .count .0
+  some-queue = f .chain .chain .count .0
 
   full-is : (cramped c s 0 ≡ true) ↔ Full c s
   unfolding cramped
@@ -65,7 +65,7 @@ module _ {c : Chain} {s : Run} (r : Running c s) where
 
   -- a firing of the source is not nothing
   fires-something : clean (fired c s 0) ≡ clean s → ⊥
-  fires-something e = omega (arith, count-fired c s 0 (omega (arith, r .whole .counts)), ap (λ (x : Ticked). countAt (x .run) 0) e)
+  fires-something e = omega (arith, count-fired c s 0 (omega (arith, f .whole .counts)), ap (λ (x : Ticked). countAt (x .run) 0) e)
 
   -- "overflowed at (tick, queue)", of the source: exactly where it is due and does not fit
   pub source-spills : (sourced c s ≡ overflowed s (s .clock) 0) ↔ (Due c s × Full c s)
@@ -103,21 +103,21 @@ pub fired-whole : (c : Chain) (s : Run) (i : ℕ) → Whole s → Whole (fired c
 unfolding fired
 fired-whole c s i w = record { counts = counts-length c s i ∙ w .counts; held = holds-length c s i ∙ w .held; done = w .done }
 
-module _ {c : Chain} {s : Run} (r : Running c s) where
+module _ {c : Chain} {s : Run} (f : Filled c s) where
   pub once-fires : Due c s → SourceOnce c s (fired c s 0)
   unfolding fired
   once-fires d = record {
-    whole = fired-whole c s 0 (r .whole);
+    whole = fired-whole c s 0 (f .whole);
     clock = refl;
     done = refl;
-    fires = λ z. (count-fired c s 0 (omega (arith, r .whole .counts)), held-output c s 0 (r .chain .chain .count .0) (omega (arith, r .whole .held)));
+    fires = λ z. (count-fired c s 0 (omega (arith, f .whole .counts)), held-output c s 0 (f .chain .chain .count .0) (omega (arith, f .whole .held)));
     rests = λ n. absurd (n d);
     counts = λ m ne. count-other c s 0 m ne;
     held = λ j ne. held-other c s 0 j ne (λ e. omega arith);
   }
 
   pub once-rests : (Due c s → ⊥) → SourceOnce c s s
-  once-rests n = record { whole = r .whole; clock = refl; done = refl; fires = λ d. absurd (n d); rests = λ z. (refl, refl); counts = λ m ne. refl; held = λ j ne. refl }
+  once-rests n = record { whole = f .whole; clock = refl; done = refl; fires = λ d. absurd (n d); rests = λ z. (refl, refl); counts = λ m ne. refl; held = λ j ne. refl }
 
 -- and no other state is that
 pub source-only : {c : Chain} {s : Run} (u v : Run) → SourceOnce c s u → SourceOnce c s v → u ≡ v

@@ -25,9 +25,9 @@ use Rattle.state.specs.State.{countAt, heldAt, doneAt}
 use Rattle.state.specs.Fired.{Over, Room, Balance}
 use Rattle.state.specs.Checks.{over-true, cramped, StateSound, room-silent}
 use Rattle.state.specs.declared.Run.{Run}
-use Rattle.deadlines.specs.Deadline.{earlier, deadline, deadline-mono}
+use Rattle.deadline.specs.Deadline.{earlier, deadline, deadline-mono}
 use Rattle.instants.specs.Best.{chosen-best}
-use Rattle.instants.specs.Kept.{finish-cases, Running, chosen-low, worked-held, works-on, works-ends}
+use Rattle.instants.specs.Kept.{finish-cases, Running, running-filled, chosen-low, worked-held, works-on, works-ends}
 use Rattle.instants.specs.Steps.{next, chosen, worked, finish, finished}
 use Rattle.instants.specs.declared.Outcome.{Outcome}
 use Rattle.instants.specs.declared.Outcome.the-variants.{Clean}
@@ -83,9 +83,9 @@ module _ {c : Chain} {u : Run} (r : Running c u) (enough : (j : ℕ) → j < c .
   finish-fits = at (chosen c u) refl
     where
       at : (i : ℕ) → chosen c u ≡ i → finished c (worked u i) .outcome ≡ Clean
-      at zero e = ap (λ (x : Ticked). x .outcome) (works-on r 0 (λ j l z. absurd (omega arith)))
+      at zero e = ap (λ (x : Ticked). x .outcome) (works-on (running-filled r) 0 (λ j l z. absurd (omega arith)))
       at (suc j) e =
           let l : j < c .n = omega (arith, chosen-low c u, e) in
           by-cases (ℕ-discrete (doneAt u j + 1) (workOf c j))
-          (λ all. ap (λ (x : Ticked). x .outcome) (works-ends r j l all) ∙ finish-clean j e)
-          (λ ne. ap (λ (x : Ticked). x .outcome) (works-on r (suc j) (λ m f z. let q : j ≡ m = omega arith in subst (λ (y : ℕ). doneAt u y + 1 < workOf c y) q (omega (arith, ne, r .state j l .1)))))
+          (λ all. ap (λ (x : Ticked). x .outcome) (works-ends (running-filled r) j l all) ∙ finish-clean j e)
+          (λ ne. ap (λ (x : Ticked). x .outcome) (works-on (running-filled r) (suc j) (λ m f z. let q : j ≡ m = omega arith in subst (λ (y : ℕ). doneAt u y + 1 < workOf c y) q (omega (arith, ne, r .state j l .1)))))

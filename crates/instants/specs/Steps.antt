@@ -38,7 +38,7 @@ use Rattle.state.specs.State.{countAt, doneAt}
 use Rattle.state.specs.Fired.{fired}
 use Rattle.state.specs.Checks.{over, cramped}
 use Rattle.state.specs.declared.Run.{Run}
-use Rattle.deadlines.specs.Deadline.{deadline, indexCheck}
+use Rattle.deadline.specs.Deadline.{deadline, indexCheck}
 use Rattle.instants.specs.declared.Outcome.{Outcome}
 use Rattle.instants.specs.declared.Outcome.the-variants.{Clean, Overflowed, NoDeadline}
 use Rattle.instants.specs.declared.Ticked.{Ticked}

@@ -27,10 +27,10 @@ use Rattle.ardenquill.specs.Chains.{rowOf, Sound, queue, made, factoryAnswer}
 use Rattle.ardenquill.specs.Analyses.{start, analyseAnswer, Accepted}
 use Rattle.ardenquill.specs.Runs.{countAt, heldAt, freshRun}
 use Rattle.ardenquill.specs.Histories as histories
-use Rattle.ardenquill.specs.Histories.{times, after, at-some}
+use Rattle.ardenquill.specs.Histories.{nodes, times, after, at-some}
 use Rattle.ardenquill.specs.Immediate as immediate
 use Rattle.ardenquill.specs.Immediate.{schedule, immediateAnswer}
-use Rattle.ardenquill.specs.Ticks.{numberOf, kindOf, onward, ticks, instants, deadlineRunAnswer, ranAs, run-is-ticks, ticks-more, nodes, trace, resting, run-traced, run-never-spills, run-may}
+use Rattle.ardenquill.specs.Ticks.{numberOf, kindOf, onward, ticks, instants, deadlineRunAnswer, ranAs, run-is-ticks, ticks-more, trace, resting, run-traced, run-never-spills, run-may}
 use Rattle.ardenquill.specs.Flat.{flat}
 use Rattle.ardenquill.specs.Records.{Chain, Run, Outcome, Clean, Overflowed, NoDeadline, Ticked, TickAnswer}
 use Rattle.promises.specs.Outcomes.{Cleanly, OverflowedAt, overflowed-is}

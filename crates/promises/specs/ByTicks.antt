@@ -13,7 +13,7 @@ use Rattle.ardenquill.specs.Analyses.{Accepted, analyse-accepts, Enough}
 use Rattle.ardenquill.specs.Runs.{freshRun, freshAnswer, fresh-state}
 use Rattle.ardenquill.specs.Ticks.{goes, onward, tick, ticks, instants, longest, tickAnswer, deadlineRunAnswer}
 use Rattle.ardenquill.specs.Ticks.{ranAs, ticking-is, tick-ran, deadline-run-accepts, deadline-run-ran}
-use Rattle.ardenquill.specs.Ticks.{run-is-ticks, Paced, fresh-paced, tick-paced, paced-ticking, run-may, tick-step}
+use Rattle.ardenquill.specs.Ticks.{run-is-ticks, Paced, fresh-paced, tick-paced, paced-ticking, run-may, running-filled, tick-step}
 use Rattle.ardenquill.specs.Records.{Chain, Run, Outcome, Clean, Overflowed, NoDeadline, Ticked, TickAnswer}
 
 -- the deadline run is not refused
@@ -53,7 +53,7 @@ module _ {c : Chain} (enough : (j : ℕ) → j < c .n → Enough c j) where
   ticks-answer zero p l = refl
   ticks-answer (suc T) {s} p l =
       ap (λ (r : TickAnswer). carryOn r (ticksFrom c T)) (tick-ran c s (ticking-is c s .1 (paced-ticking enough p (omega arith))))
-      ∙ carried (tick c s) (ticksFrom c T) (ticks c T) (λ h. let q : Paced c (tick c s .run) = tick-paced p h in ticks-answer T q (omega (arith, tick-step (p .running) h .clock)))
+      ∙ carried (tick c s) (ticksFrom c T) (ticks c T) (λ h. let q : Paced c (tick c s .run) = tick-paced p h in ticks-answer T q (omega (arith, tick-step (running-filled (p .running)) h .clock)))
 
 -- a deadline run that is not refused
 module _ (c : Chain) (T : ℕ) (ran : DeadlineRuns c T) where

@@ -27,9 +27,9 @@ use lib.ListN.{length, drop}
 use Rattle.ardenquill.specs.Chains.{rowOf, factoryAnswer}
 use Rattle.ardenquill.specs.Analyses.{start}
 use Rattle.ardenquill.specs.Runs.{countAt, heldAt, freshRun, answered, freshAnswer, fresh-state, fireAnswer, fire-accepted, Firing, firing-is}
-use Rattle.ardenquill.specs.Histories.{times, times-again, times-other, counted-from}
+use Rattle.ardenquill.specs.Histories.{Entry, nodes, times, times-again, times-other, counted-from}
 use Rattle.ardenquill.specs.Ticks.{divides, begun, advanced, finished, ended, outcomeOf, tickAnswer, Ticking, ticking-is}
-use Rattle.ardenquill.specs.Ticks.{tick-ran, Running, Entry, nodes, tracing, sourceEntry, finishEntry, finishTrace}
+use Rattle.ardenquill.specs.Ticks.{tick-ran, Running, tracing, sourceEntry, finishEntry, finishTrace}
 use Rattle.ardenquill.specs.Ticks.{tickTrace, resting, Replays, replays-none, replays-one, replays-then, tick-traced}
 use Rattle.ardenquill.specs.Records.{Chain, Run, Outcome, Clean, Overflowed, NoDeadline, TickAnswer}
 use Rattle.promises.specs.Replay.{pOf, cOf, line, AllSlots, Passes, replayAnswer, Fires, Sometime, fires-is, fires-state, accepts-is}

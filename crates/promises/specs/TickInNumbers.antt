@@ -24,7 +24,7 @@ use Rattle.ardenquill.specs.Chains.{workOf, Silent, Silents}
 use Rattle.ardenquill.specs.Analyses.{Accepted, runChecks}
 use Rattle.ardenquill.specs.Runs.{countAt, heldAt, doneAt, Over, StateSound}
 use Rattle.ardenquill.specs.Deadlines.{askCheck, ask-silent, indexCheck, index, index-silent, index-only, index-exact, deadline, answeredDue, deadlineAnswer, deadline-13}
-use Rattle.ardenquill.specs.Ticks.{outcomeOf, tickAnswer, Ticking, ticking-is, tick-ran, tick-step, SourceOnce, TickOnce, Lacks, workedBy, source-work, other-work, own-work}
+use Rattle.ardenquill.specs.Ticks.{outcomeOf, tickAnswer, Ticking, ticking-is, tick-ran, tick-running, SourceOnce, TickOnce, Lacks, workedBy, source-work, other-work, own-work}
 use Rattle.ardenquill.specs.Records.{Refusal, Chain, DeadlineAnswer, Run, Outcome, Clean, Overflowed, NoDeadline, TickAnswer}
 use Rattle.promises.specs.Outcomes.{Cleanly, UndatedAt, cleanly-is, overflowed-is, undated-is}
 use Rattle.promises.specs.Replay.{pOf, τOf, Accepts, line, AllSlots, Passes, Ample, accepts-is}
@@ -219,8 +219,8 @@ module _ (c : Chain) (s : Run) (slots : AllSlots s) (ok : tickAnswer c s .number
   tick-passes z =
       let k : Ticking c s = ticking-is c s .0 ok in
       let ran = tick-ran c s ok in
-      let step = tick-step (record { chain = k .chain; whole = whole slots; state = k .state }) (ap (λ (a : TickAnswer). a .outcome) (sym ran) ∙ cleanly-is (tickAnswer c s .outcome) .0 z) in
-      passes-is c (tickAnswer c s .run) (may .0) .0 (subst (λ (a : TickAnswer). StateSound c (a .run)) (sym ran) (step .running .state))
+      let leaves = tick-running (record { chain = k .chain; whole = whole slots; state = k .state }) (ap (λ (a : TickAnswer). a .outcome) (sym ran) ∙ cleanly-is (tickAnswer c s .outcome) .0 z) in
+      passes-is c (tickAnswer c s .run) (may .0) .0 (subst (λ (a : TickAnswer). StateSound c (a .run)) (sym ran) (leaves .state))
 
   module _ (z : Cleanly (tickAnswer c s .outcome)) (j : ℕ) (l : j < c .n) where
     -- a clean tick leaves such a count, by what the node has worked before and after it

@@ -24,7 +24,8 @@ use lib.ListN.{length, getD}
 use Rattle.ardenquill.specs.Chains.{workOf}
 use Rattle.ardenquill.specs.Runs.{zeros, countAt, doneAt, freshRun, fresh-empty}
 use Rattle.ardenquill.specs.Ticks.{tickAnswer, deadlineRunAnswer, workedBy, spentOn, total, Waits, tick-total, SourceOnce, run-start}
-use Rattle.ardenquill.specs.Ticks.{CleanStep, along, Entry, nodes, trace, instantsOf, Rising, entriesOf, entries-count, FiredAt}
+use Rattle.ardenquill.specs.Histories.{Entry, nodes}
+use Rattle.ardenquill.specs.Ticks.{CleanStep, along, trace, instantsOf, Rising, entriesOf, entries-count, FiredAt}
 use Rattle.ardenquill.specs.Records.{Chain, Run, TickAnswer}
 use Rattle.promises.specs.Replay.{AllSlots}
 use Rattle.promises.specs.Zeros.{zeroRun}

@@ -20,8 +20,8 @@ use Rattle.chain.specs.declared.Chain.{Chain}
 use Rattle.state.specs.Fired.{Over}
 use Rattle.state.specs.declared.Run.{Run}
 use Rattle.flow.specs.Flow.{thresholdIn, heldIn, sizeIn}
-use Rattle.deadline.specs.Question.{datedOf}
-use Rattle.deadline.specs.Dues.{Dated, DatedGives}
+use Rattle.dates.specs.Question.{datedOf}
+use Rattle.dates.specs.Dues.{Dated, DatedGives}
 use Rattle.instants.specs.Steps.{next}
 use Rattle.steps.specs.Lent.{Stands}
 use Rattle.steps.specs.Passed.{Stand, Wanted, DuesGive}
@@ -46,7 +46,7 @@ dued-dated {l} {f} {j} a h =
       chain = a .chain;
       run = a .run;
       shown = a .stands .shown;
-      sound = a .stands .running .chain .chain;
+      sound = a .stands .filled .chain .chain;
       node = omega arith;
       count = a .stands .counts (j + 1) (omega arith);
     }

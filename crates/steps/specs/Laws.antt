@@ -2,14 +2,14 @@
 --   full-is, -sink, -queue   whether a production fits is what 12 asks of the state that is shown, and how code tests it
 --   rooms-…                  the numbers of that test fit
 --   source-…                 the source's step
---   worked-done, work-…, ended-…
---                            one tick of work, and whether it is all that is to be done
+--   worked-done, for-done, work-…, ended-…
+--                            one tick of work and so many of them, and whether it is all that is to be done
 --   shows-as                 a flow shows every state with the same counts and contents
 --   finish-…                 the effect of a firing that is finished
 use mathlib.Core.Path.{_≡_, refl, sym, ap, ap₂, subst, _∙_}
 use mathlib.Core.Logic.{_≢_, by-cases}
-use mathlib.Core.Bool.{Bool, true, false, cond, _&&_}
-use mathlib.Core.List.{List}
+use mathlib.Core.Bool.{Bool, true, false, cond, _&&_, true≢false}
+use mathlib.Core.List.{List, [], _∷_}
 use Prim.Native.Nat.{ℕ, zero, suc, _+_, _-_, _%_, _≤_, _<_, _^_}
 use native.Mathlib.Decide.{decLt}
 use native.Mathlib.Omega.{arith}
@@ -19,18 +19,20 @@ use borrow.Author.Tests.{eq-eqb, ne-eqb, lt-ltb, le-ltb}
 use Rattle.chain.specs.Record.{rowOf}
 use Rattle.chain.specs.declared.Chain.{Chain}
 use Rattle.sizing.specs.Sizes.{capacityOf, capacity-most}
-use Rattle.state.specs.Fired.{fired}
+use Rattle.state.specs.Fired.{fired, May}
 use Rattle.state.specs.Checks.{cramped}
-use Rattle.state.specs.Fire.{Firing}
 use Rattle.state.specs.declared.Run.{Run}
 use Rattle.flow.specs.Flow.{produceIn, heldIn, sizeIn, Shows, Ready, firing, shows-fired}
 use Rattle.sizing.specs.Plan.{capacityIn, workIn, periodIn}
-use Rattle.deadline.specs.Dues.{Shown}
+use Rattle.dates.specs.Dues.{Shown}
 use Rattle.instants.specs.Steps.{clean, overflowed, sourced, worked, withDone, finish, finished}
-use Rattle.instants.specs.Kept.{Running, source-may, worked-counts, worked-held, worked-clock, works-ends, cleared-running, finish-may}
+use Rattle.instants.specs.Kept.{source-may, worked-counts, worked-held, worked-clock, works-ends, finish-may}
+use Rattle.instants.specs.Quiet.{workedFor}
 use Rattle.instants.specs.declared.Outcome.the-variants.{Clean, Overflowed}
 use Rattle.instants.specs.declared.Ticked.{Ticked}
-use Rattle.steps.specs.Lent.{Stands, fullIn, Rooms, Sources, SourcedTo, SourcedGives, workedIn, endedAt, EndsIn, Ends, FinishedTo, FinishedGives}
+use Rattle.traces.specs.Trace.{tracing, sourceEntry}
+use Rattle.steps.specs.Lent.{firedAt, outcomeAs, Stands, fullIn, Rooms, Sources, SourcedTo, SourcedGives, workedIn, endedAt, EndsIn, Ends, FinishedTo, FinishedGives}
+use Rattle.steps.specs.declared.Step.{Step}
 
 -- whether the production of N_i does not fit, by the plan and the flow and by the chain and the state that they show
 pub full-is : {l f : List ℕ} {c : Chain} {s : Run} → Shown l f c s → (i : ℕ) → fullIn l f i ≡ cramped c s i
@@ -48,8 +50,8 @@ module _ {l f : List ℕ} {i : ℕ} (r : Rooms l f i) where
   pub rooms-sum : i < sizeIn f → heldIn f i + produceIn f i < 2 ^ 32
   rooms-sum h =
       let m : i < r .chain .n = omega (arith, r .shown .shows .many) in
-      let q = r .running .chain .chain .rows i m in
-      omega (arith, r .shown .shows .holds i (omega (arith, rooms-size)), r .shown .shows .puts i m, r .running .state i m .0 .1, capacity-most q, q .produce .1)
+      let q = r .filled .chain .chain .rows i m in
+      omega (arith, r .shown .shows .holds i (omega (arith, rooms-size)), r .shown .shows .puts i m, r .filled .within i m, capacity-most q, q .produce .1)
 
 -- past the last queue nothing is full
 pub full-sink : (l f : List ℕ) (i : ℕ) → sizeIn f ≤ i → false ≡ fullIn l f i
@@ -72,17 +74,29 @@ module _ (c : Chain) (s : Run) where
   unfolding sourced
   fires z e = simp (eq-eqb _ _ z, e)
 
+-- the source's entry in the trace, where y does not divide the clock and where it does
+module _ (c : Chain) (s : Run) where
+  entry-none : s .clock % c .period ≢ 0 → sourceEntry c s ≡ []
+  unfolding sourceEntry
+  entry-none n = simp (ne-eqb _ _ n)
+
+  entry-own : s .clock % c .period ≡ 0 → sourceEntry c s ≡ (s .clock, 0) ∷ []
+  unfolding sourceEntry
+  entry-own z = simp (eq-eqb _ _ z)
+
 -- a flow shows what the source's step leaves
-sourced-to : {c : Chain} {s : Run} {t : ℕ} {g : List ℕ} {r : Bool} {x : Ticked} → sourced c s ≡ x → x .outcome ≡ cond r Clean (Overflowed t 0) → Shows g c (x .run) → SourcedTo c s t g r
-sourced-to {c} {s} {t} {g} {r} e o h = record { outcome = ap (λ (y : Ticked). y .outcome) e ∙ o; shows = subst (λ (y : Ticked). Shows g c (y .run)) (sym e) h }
+sourced-to : {c : Chain} {s : Run} {t : ℕ} {g : List ℕ} {r : Step} {x : Ticked} → sourced c s ≡ x → x .outcome ≡ outcomeAs (r .kind) t 0 → Shows g c (x .run)
+    → (r .kind ≡ 0 → r .fired ≡ false → x ≡ clean s) → tracing (x .outcome) s (λ u. sourceEntry c s) ≡ firedAt (r .fired) t 0 → SourcedTo c s t g r
+sourced-to {c} {s} {t} {g} {r} e o h rests entry = record {
+  outcome = ap (λ (y : Ticked). y .outcome) e ∙ o;
+  shows = subst (λ (y : Ticked). Shows g c (y .run)) (sym e) h;
+  rests = λ z n. e ∙ rests z n;
+  entry = ap (λ (y : Ticked). tracing (y .outcome) s (λ u. sourceEntry c s)) e ∙ entry;
+}
 
 -- the source may fire where its production fits
-source-firing : {l f : List ℕ} {c : Chain} {s : Run} → Stands l f c s → fullIn l f 0 ≡ false → Firing c s 0
-source-firing {c = c} {s = s} x e = record {
-  chain = x .running .chain;
-  state = x .running .state;
-  may = source-may (x .running) (λ z. omega (arith, x .counts 0 (omega arith))) (sym (full-is (x .shown) 0) ∙ e);
-}
+may-source : {l f : List ℕ} {c : Chain} {s : Run} → Stands l f c s → fullIn l f 0 ≡ false → May c s 0
+may-source {c = c} {s = s} x e = source-may c s (λ z. omega (arith, x .counts 0 (omega arith))) (sym (full-is (x .shown) 0) ∙ e)
 
 module _ {l f : List ℕ} {t : ℕ} where
   pub source-ready : Sources l f t → fullIn l f 0 ≡ false → Ready f 0
@@ -90,7 +104,8 @@ module _ {l f : List ℕ} {t : ℕ} where
     chain = a .chain;
     run = a .run;
     shows = a .stands .shown .shows;
-    firing = source-firing (a .stands) e;
+    sound = a .stands .filled .chain .chain;
+    may = may-source (a .stands) e;
     word = omega (arith, a .stands .counts 0 (omega arith));
   }
 
@@ -98,36 +113,51 @@ module _ {l f : List ℕ} {t : ℕ} where
   rest-is : {c : Chain} {s : Run} → Stands l f c s → s .clock ≡ t → s .clock % c .period ≡ t % periodIn l
   rest-is x k = ap₂ (λ (a b : ℕ). a % b) k (sym (x .shown .plans .period))
 
-  pub source-rests : t % periodIn l ≢ 0 → SourcedGives l f t f true
-  source-rests n = record { gives = λ {c} {s} x k. sourced-to (rests c s (λ z. n (sym (rest-is x k) ∙ z))) refl (x .shown .shows) }
+  pub source-rests : t % periodIn l ≢ 0 → SourcedGives l f t f (record { kind = 0; fired = false })
+  unfolding tracing
+  source-rests n = record {
+    gives = λ {c} {s} x k.
+        let late : s .clock % c .period ≢ 0 = λ z. n (sym (rest-is x k) ∙ z) in
+        sourced-to (rests c s late) refl (x .shown .shows) (λ z m. refl) (entry-none c s late);
+  }
 
   module _ (z : t % periodIn l ≡ 0) where
-    pub source-spills : fullIn l f 0 ≡ true → SourcedGives l f t f false
+    pub source-spills : fullIn l f 0 ≡ true → SourcedGives l f t f (record { kind = 1; fired = false })
+    unfolding tracing
     source-spills e = record {
-      gives = λ {c} {s} x k. sourced-to (spills c s (rest-is x k ∙ z) (sym (full-is (x .shown) 0) ∙ e)) (ap (λ (u : ℕ). Overflowed u 0) k) (x .shown .shows);
+      gives = λ {c} {s} x k.
+          sourced-to (spills c s (rest-is x k ∙ z) (sym (full-is (x .shown) 0) ∙ e)) (ap (λ (u : ℕ). Overflowed u 0) k) (x .shown .shows) (λ m. absurd (omega arith)) refl;
     }
 
-    pub source-fires : fullIn l f 0 ≡ false → SourcedGives l f t (firing f 0) true
+    pub source-fires : fullIn l f 0 ≡ false → SourcedGives l f t (firing f 0) (record { kind = 0; fired = true })
+    unfolding tracing
     source-fires e = record {
-      gives = λ {c} {s} x k. sourced-to (fires c s (rest-is x k ∙ z) (sym (full-is (x .shown) 0) ∙ e)) refl (shows-fired (x .shown .shows) (source-firing x e));
+      gives = λ {c} {s} x k.
+          sourced-to (fires c s (rest-is x k ∙ z) (sym (full-is (x .shown) 0) ∙ e)) refl (shows-fired (x .shown .shows) (x .filled .chain .chain) (may-source x e))
+          (λ m n. absurd (true≢false n)) (entry-own c s (rest-is x k ∙ z) ∙ ap (λ (u : ℕ). (u, 0) ∷ []) k);
     }
 
--- one tick of work of N_i, as the definition of a tick has it
-pub worked-done : (s : Run) (i : ℕ) → worked s i .done ≡ workedIn (s .done) i
+-- one tick of work of N_i, as the definition of a tick has it, and k of them
+pub worked-done : (s : Run) (i : ℕ) → worked s i .done ≡ workedIn (s .done) i 1
 unfolding worked workedIn
 worked-done s zero = refl
 worked-done s (suc j) = refl
 
--- the same as code has it, which counts from 0
-pub work-node : (e : List ℕ) (i : ℕ) → 0 < i → set e (i - 1) (getD e (i - 1) 0 + 1) ≡ workedIn e i
+pub for-done : (s : Run) (i k : ℕ) → workedFor s i k .done ≡ workedIn (s .done) i k
 unfolding workedIn
-work-node e zero h = absurd (omega arith)
-work-node e (suc j) h = let z : suc j - 1 ≡ j = omega arith in rw z
+for-done s zero k = refl
+for-done s (suc j) k = refl
 
-pub work-none : (e : List ℕ) (i : ℕ) → i ≤ 0 → e ≡ workedIn e i
+-- the same as code has it, which counts from 0
+pub work-node : (e : List ℕ) (i k : ℕ) → 0 < i → set e (i - 1) (getD e (i - 1) 0 + k) ≡ workedIn e i k
 unfolding workedIn
-work-none e zero h = refl
-work-none e (suc j) h = absurd (omega arith)
+work-node e zero k h = absurd (omega arith)
+work-node e (suc j) k h = let z : suc j - 1 ≡ j = omega arith in rw z
+
+pub work-none : (e : List ℕ) (i k : ℕ) → i ≤ 0 → e ≡ workedIn e i k
+unfolding workedIn
+work-none e zero k h = refl
+work-none e (suc j) k h = absurd (omega arith)
 
 pub ended-none : (l e : List ℕ) (i : ℕ) → i ≡ 0 → false ≡ endedAt l e i
 unfolding endedAt
@@ -186,7 +216,7 @@ module _ {l f e : List ℕ} {i : ℕ} {c : Chain} {u : Run} (x : EndsIn l f e i 
   cleared = withDone after (x .queue) 0
 
   ends-is : finished c after ≡ finish c after node
-  ends-is = works-ends (x .running) (x .queue) (x .inside) (x .all)
+  ends-is = works-ends (x .filled) (x .queue) (x .inside) (x .all)
 
   full-now : {b : Bool} → fullIn l f i ≡ b → cramped c after node ≡ b
   full-now {b} h = cramped-as c u after node (worked-held u node) ∙ sym (full-is (x .shown) node) ∙ subst (λ (k : ℕ). fullIn l f k ≡ b) (x .is) h
@@ -194,14 +224,8 @@ module _ {l f e : List ℕ} {i : ℕ} {c : Chain} {u : Run} (x : EndsIn l f e i 
   cleared-shown : Shows f c cleared
   cleared-shown = shows-as (x .shown .shows) (worked-counts u node) (worked-held u node)
 
-  ends-firing : fullIn l f i ≡ false → Firing c cleared node
-  ends-firing h =
-      let r : Running c cleared = cleared-running (x .running) (x .queue) (x .inside) (x .all) in
-      record {
-        chain = r .chain;
-        state = r .state;
-        may = finish-may (x .running) (x .queue) (x .inside) (x .all) (x .over) (λ z. omega (arith, x .count)) (full-now h);
-      }
+  ends-may : fullIn l f i ≡ false → May c cleared node
+  ends-may h = finish-may c u (x .queue) (x .inside) (x .over) (λ z. omega (arith, x .count)) (full-now h)
 
   ends-over : fullIn l f i ≡ true → FinishedTo c u node f e false
   ends-over h = let q : finished c after ≡ overflowed after (after .clock) node = ends-is ∙ finish-over c after (x .queue) (full-now h) in record {
@@ -213,7 +237,7 @@ module _ {l f e : List ℕ} {i : ℕ} {c : Chain} {u : Run} (x : EndsIn l f e i 
   ends-fits : fullIn l f i ≡ false → FinishedTo c u node (firing f node) (set e (x .queue) 0) true
   ends-fits h = let q : finished c after ≡ clean (fired c cleared node) = ends-is ∙ finish-clean c after (x .queue) (full-now h) in record {
     outcome = ap (λ (y : Ticked). y .outcome) q;
-    shows = subst (λ (y : Ticked). Shows (firing f node) c (y .run)) (sym q) (shows-fired cleared-shown (ends-firing h));
+    shows = subst (λ (y : Ticked). Shows (firing f node) c (y .run)) (sym q) (shows-fired cleared-shown (x .filled .chain .chain) (ends-may h));
     done = ap (λ (y : List ℕ). set y (x .queue) 0) (x .done) ∙ sym (fired-done c cleared node) ∙ ap (λ (y : Ticked). y .run .done) (sym q);
   }
 
@@ -223,7 +247,7 @@ module _ {l f e : List ℕ} {i : ℕ} where
     chain = a .chain;
     run = a .run;
     shown = a .ends .shown;
-    running = a .ends .running;
+    filled = a .ends .filled;
     node = omega (arith, a .ends .is, a .ends .inside);
   }
 
@@ -232,7 +256,8 @@ module _ {l f e : List ℕ} {i : ℕ} where
     chain = a .chain;
     run = cleared (a .ends);
     shows = cleared-shown (a .ends);
-    firing = ends-firing (a .ends) h;
+    sound = a .ends .filled .chain .chain;
+    may = ends-may (a .ends) h;
     word = omega (arith, a .ends .count, ap (λ (y : List ℕ). getD y (suc (a .ends .queue)) 0) (worked-counts (a .run) (suc (a .ends .queue))));
   })
 

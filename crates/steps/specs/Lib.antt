@@ -1,7 +1,9 @@
 pub mod Lent
 pub mod Laws
 pub mod Scans
-pub mod Begun
 pub mod Passed
+pub mod Begun
+pub mod Completed
 pub mod Ticked
+pub mod Jumped
 pub mod Dued

@@ -27,8 +27,8 @@ use Rattle.state.specs.Fired.{Over}
 use Rattle.state.specs.Checks.{over}
 use Rattle.state.specs.declared.Run.{Run}
 use Rattle.flow.specs.Flow.{thresholdIn, heldIn, sizeIn, Shows}
-use Rattle.deadlines.specs.Deadline.{deadline, indexCheck}
-use Rattle.deadline.specs.Question.{never, dated-had, dated-exact}
+use Rattle.deadline.specs.Deadline.{deadline, indexCheck}
+use Rattle.dates.specs.Question.{never, dated-had, dated-exact}
 use Rattle.instants.specs.Lacking.{lack-says, lack-silent, lacking-silent}
 use Rattle.instants.specs.Steps.{next, lackingTest, lacking, asEarly, choose, chosen}
 use Rattle.steps.specs.Lent.{Keeps, lackOf, LackingGives, ChosenGives}

@@ -2,9 +2,10 @@
 // firing. A tick composes them, and so does a run, which makes them once for every tick.
 ghost use mathlib.Core.Path.{_≡_};
 ghost use Prim.Native.Nat.{_≤_};
-ghost use Rattle.steps.specs.Lent.{fullIn, Rooms, Sources, SourcedGives, Looks, LackingGives, ChosenGives, workedIn, Works, endedAt, Ends, FinishedGives, BegunGives};
-ghost use Rattle.steps.specs.Passed.{Stand, DuesGive, Passes, PassGives};
-use deadline::NEVER;
+ghost use Rattle.steps.specs.Lent.{fullIn, Rooms, Sources, SourcedGives, Looks, LackingGives, ChosenGives, workedIn, Works, endedAt, Ends, FinishedGives};
+ghost use Rattle.steps.specs.Passed.{Stand, DuesGive, BegunGives, Completes, CompletedGives, Passes, PassGives};
+ghost use Rattle.steps.specs.Jumped.{Unended, UnfinishedGives, Quiets, QuietGives, JumpedGives};
+use dates::NEVER;
 use flow::COUNTS;
 use flow::HELD;
 use flow::LENGTH;
@@ -26,23 +27,31 @@ pub const NO_DEADLINE: u32 = 2;
 // In place of the node that works: it is to be chosen anew.
 pub const STALE: usize = 17;
 
-// What the source's step and 13 leave: how they ended, and the node that works, the queue that overflowed, or the node
-// without a deadline.
+// What a step leaves in which a node may fire: how it ended, and whether the node has fired.
+pub struct Step {
+    pub kind: u32,
+    pub fired: bool,
+}
+
+// What the source's step, 13 and the choice leave: how they ended, whether the source has fired, and the node that works, the
+// queue that overflowed, or the node without a deadline.
 pub struct Start {
     pub kind: u32,
+    pub source: bool,
     pub node: usize,
 }
 
 // What one tick leaves: how it ended, the clock, the node that worked, the queue that overflowed or the node without a
-// deadline, and whether the node that worked has fired.
+// deadline, and whether the source and the node that worked have fired.
 pub struct Passed {
     pub kind: u32,
     pub tick: u32,
     pub node: usize,
+    pub source: bool,
     pub fired: bool,
 }
 
-// One tick: the source's step, 13, the choice, one tick of work, and the effect of a firing then finished.
+// One tick: it is begun, and where that is clean it is completed.
 pub fn pass(
     plan: &[u32; PLAN],
     flow: &mut [u32; LENGTH],
@@ -55,34 +64,27 @@ pub fn pass(
     ensures { λ r. ⌜ PassGives (now (plan .entry)) (now (flow .entry)) (now (due .entry)) (now (done .entry)) clock node (now (flow .exit)) (now (done .exit)) r ⌝ }
 {
     let start = begun(plan, flow, due, clock, node);
-    let i = start.node;
     if start.kind != CLEAN {
-        return left(start.kind, clock, i, false);
+        return Passed {
+            kind: start.kind,
+            tick: clock,
+            node: start.node,
+            source: start.source,
+            fired: false,
+        };
     }
-    worked(done, i);
-    if has_ended(plan, done, i) {
-        if finished(plan, flow, done, i) {
-            return left(CLEAN, clock + 1, i, true);
-        }
-        return left(OVERFLOWED, clock + 1, i, false);
-    }
-    left(CLEAN, clock + 1, i, false)
-}
-
-// What one tick leaves.
-fn left(kind: u32, tick: u32, node: usize, fired: bool) -> Passed
-    ensures { λ r. ⌜ r ≡ record { kind = kind; tick = tick; node = node; fired = fired } ⌝ }
-{
+    let step = completed(plan, flow, done, start.node);
     Passed {
-        kind: kind,
-        tick: tick,
-        node: node,
-        fired: fired,
+        kind: step.kind,
+        tick: clock + 1,
+        node: start.node,
+        source: start.source,
+        fired: step.fired,
     }
 }
 
-// The source's step, then 13, then the choice. The choice of the tick before stands where the source has not fired; what
-// the source put in is taken back where a deadline cannot be had.
+// The first half of a tick: the source's step, then 13, then the choice. The choice of the tick before stands where the
+// source has not fired; what the source put in is taken back where a deadline cannot be had.
 pub fn begun(
     plan: &[u32; PLAN],
     flow: &mut [u32; LENGTH],
@@ -95,33 +97,111 @@ pub fn begun(
 {
     let count = flow[COUNTS];
     let held = flow[HELD];
-    if !sourced(plan, flow, clock) {
-        return Start {
-            kind: OVERFLOWED,
-            node: 0,
-        };
+    let step = sourced(plan, flow, clock);
+    if step.kind != CLEAN {
+        return started(step.kind, false, 0);
     }
     if node < STALE {
-        if flow[COUNTS] == count {
-            return Start {
-                kind: CLEAN,
-                node: node,
-            };
+        if !step.fired {
+            return started(CLEAN, false, node);
         }
     }
     let without = lacking(flow, due);
     if without != 0 {
         flow[COUNTS] = count;
         flow[HELD] = held;
-        return Start {
-            kind: NO_DEADLINE,
-            node: without,
-        };
+        return started(NO_DEADLINE, false, without);
     }
+    started(CLEAN, step.fired, chosen(flow, due))
+}
+
+// What the first half of a tick leaves.
+fn started(kind: u32, source: bool, node: usize) -> Start
+    ensures { λ r. ⌜ r ≡ record { kind = kind; source = source; node = node } ⌝ }
+{
     Start {
-        kind: CLEAN,
-        node: chosen(flow, due),
+        kind: kind,
+        source: source,
+        node: node,
     }
+}
+
+// The second half of a tick: one tick of work of node i, 0 for none, and the effect of the firing then finished.
+pub fn completed(
+    plan: &[u32; PLAN],
+    flow: &mut [u32; LENGTH],
+    done: &mut [u32; 16],
+    i: usize,
+) -> Step
+    requires { ⌜ Completes (now plan) (now flow) (now done) i ⌝ }
+    ensures { λ r. ⌜ CompletedGives (now (plan .entry)) (now (flow .entry)) (now (done .entry)) i (now (flow .exit)) (now (done .exit)) r ⌝ }
+{
+    worked(done, i, 1);
+    if !has_ended(plan, done, i) {
+        return stepped(CLEAN, false);
+    }
+    if finished(plan, flow, done, i) {
+        return stepped(CLEAN, true);
+    }
+    stepped(OVERFLOWED, false)
+}
+
+// What a step leaves in which a node may fire.
+fn stepped(kind: u32, fired: bool) -> Step
+    ensures { λ r. ⌜ r ≡ record { kind = kind; fired = fired } ⌝ }
+{
+    Step {
+        kind: kind,
+        fired: fired,
+    }
+}
+
+// The jump over the quiet ticks from the clock on, none of them at `until` or later: their work is added to that of node i, 0
+// for none, and the clock after them comes back.
+pub fn jumped(plan: &[u32; PLAN], done: &mut [u32; 16], clock: u32, until: u32, i: usize) -> u32
+    requires { ⌜ Quiets (now plan) (now done) clock until i ⌝ }
+    ensures { λ r. ⌜ JumpedGives (now (plan .entry)) (now (done .entry)) clock until i (now (done .exit)) r ⌝ }
+{
+    let ticks = quiet(plan, done, clock, until, i);
+    worked(done, i, ticks);
+    clock + ticks
+}
+
+// How many ticks from the clock on are quiet: the source does not fire in them, and node i, which works in all of them,
+// does not finish its firing.
+fn quiet(plan: &[u32; PLAN], done: &[u32; 16], clock: u32, until: u32, i: usize) -> u32
+    requires { ⌜ Quiets (now plan) (now done) clock until i ⌝ }
+    ensures { λ r. ⌜ QuietGives (now (plan .entry)) (now (done .entry)) clock until i r ⌝ }
+{
+    let ticks = unfinished(plan, done, until - clock, i);
+    if ticks == 0 {
+        return 0;
+    }
+    let rest = clock % plan[PERIOD];
+    if rest == 0 {
+        return 0;
+    }
+    let source = plan[PERIOD] - rest;
+    if source < ticks {
+        return source;
+    }
+    ticks
+}
+
+// Of so many ticks those in which the work of node i, where there is one, goes on and its firing is not finished.
+fn unfinished(plan: &[u32; PLAN], done: &[u32; 16], ticks: u32, i: usize) -> u32
+    requires { ⌜ Unended (now plan) (now done) i ⌝ }
+    ensures { λ r. ⌜ UnfinishedGives (now (plan .entry)) (now (done .entry)) ticks i r ⌝ }
+{
+    if i == 0 {
+        return ticks;
+    }
+    let j = i - 1;
+    let left = plan[WORK + j] - done[j] - 1;
+    if left < ticks {
+        return left;
+    }
+    ticks
 }
 
 // The deadline of the next firing of every node, or of those alone that a tick may look at: the nodes over threshold, and
@@ -135,26 +215,26 @@ pub fn dues(plan: &[u32; PLAN], flow: &[u32; LENGTH], every: bool) -> [u64; 16]
     let mut j = 0;
     while j < n {
         if every | (j == 0) | (flow[THRESHOLD + j] <= flow[HELD + j]) {
-            due[j] = deadline::dated(plan, flow, j + 1);
+            due[j] = dates::dated(plan, flow, j + 1);
         }
         j += 1;
     }
     due
 }
 
-// The source's step: it fires where its period divides the clock; false where its production does not fit.
-pub fn sourced(plan: &[u32; PLAN], flow: &mut [u32; LENGTH], clock: u32) -> bool
+// The source's step: it fires where its period divides the clock, if its production fits.
+pub fn sourced(plan: &[u32; PLAN], flow: &mut [u32; LENGTH], clock: u32) -> Step
     requires { ⌜ Sources (now plan) (now flow) clock ⌝ }
     ensures { λ r. ⌜ SourcedGives (now (plan .entry)) (now (flow .entry)) clock (now (flow .exit)) r ⌝ }
 {
     if clock % plan[PERIOD] != 0 {
-        return true;
+        return stepped(CLEAN, false);
     }
     if is_full(plan, flow, 0) {
-        return false;
+        return stepped(OVERFLOWED, false);
     }
     flow::effect(flow, 0);
-    true
+    stepped(CLEAN, true)
 }
 
 // 13: the lowest node over threshold whose deadline cannot be had; 0 where there is none. The deadline is tested first, since
@@ -197,14 +277,14 @@ pub fn chosen(flow: &[u32; LENGTH], due: &[u64; 16]) -> usize
     node
 }
 
-// One tick of work of node i, where there is one; the clock goes on in `pass`.
-pub fn worked(done: &mut [u32; 16], i: usize)
-    requires { ⌜ Works (now done) i ⌝ }
-    ensures { λ _. ⌜ now (done .exit) ≡ workedIn (now (done .entry)) i ⌝ }
+// So many ticks of work of node i, where there is one; the clock goes on in `pass` and `jumped`.
+pub fn worked(done: &mut [u32; 16], i: usize, ticks: u32)
+    requires { ⌜ Works (now done) i ticks ⌝ }
+    ensures { λ _. ⌜ now (done .exit) ≡ workedIn (now (done .entry)) i ticks ⌝ }
 {
     if 0 < i {
         let j = i - 1;
-        done[j] = done[j] + 1;
+        done[j] = done[j] + ticks;
     }
 }
 

@@ -15,13 +15,14 @@ use Rattle.sizing.specs.Plan.{RunPlans}
 use Rattle.state.specs.State.{countAt, emptyRun, freshRun, fresh-count}
 use Rattle.state.specs.Checks.{stateCheck, planned-run}
 use Rattle.state.specs.declared.Run.{Run}
-use Rattle.past.specs.Runs.{Whole}
+use Rattle.slots.specs.Runs.{Whole}
 use Rattle.flow.specs.Flow.{Shows}
 use Rattle.flow.specs.Poured.{Showing}
 use Rattle.instants.specs.Checks.{longest, clockCheck, spentCheck, tickRefusal, tickAnswer, deadlineRunRefusal, deadlineRunAnswer}
 use Rattle.instants.specs.Steps.{onward, tick, ticks}
 use Rattle.instants.specs.Runs.{onward-none, ticks-none, ticks-suc}
 use Rattle.instants.specs.Refusals.{Ticking, ranAs, refusedAs, tick-parts, tick-ran, tick-refused, ticking-is, length-exact, deadline-run-parts, deadline-run-accepts, deadline-run-ran, deadline-run-refused}
+use Rattle.instants.specs.Kept.{running-filled}
 use Rattle.instants.specs.Fresh.{fresh-running, run-is-ticks}
 use Rattle.ticks.specs.Left.{refusedWith, leftBy, left-is}
 use Rattle.ticks.specs.Runs.{LendsIn, Lends, RanGives}
@@ -70,7 +71,7 @@ module _ (c : Chain) (s : Run) where
             lent : LendsIn p m (s .done) (s .clock) 1 c s
             lent = record {
               shown = record { plans = planned-run e z .plans; shows = v .shows };
-              running = record { chain = ticking .chain; whole = slots; state = ticking .state };
+              filled = running-filled (record { chain = ticking .chain; whole = slots; state = ticking .state });
               clock = refl;
               done = refl;
               long = omega (arith, ticking .clock);
@@ -108,7 +109,7 @@ module _ (c : Chain) (T : ℕ) where
           unfolding freshRun
           fresh-lent = record {
             shown = record { plans = planned-run e z .plans; shows = y };
-            running = fresh-running accepted;
+            filled = running-filled (fresh-running accepted);
             clock = refl;
             done = refl;
             long = omega arith;

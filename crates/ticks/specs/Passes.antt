@@ -1,42 +1,47 @@
 -- Ticks over what is lent: what holds before each of them.
 --   kept-as                  a deadline that is kept stays right while its node's count stays
---   goes-on, goes-no-further what follows a clean outcome, and that nothing follows another
 --   stands-in                a state that is lent for a tick is one that a tick can be made of
 --   endedBy r, allClean k    how ticks end with one that leaves r, and where all are clean up to clock k
 --   Gone l g o h k U i c x   a state is lent at clock k, and its ticks up to clock U leave x; o has the deadlines that they look at, and i is the node that works, or stale
 --   Going                    so for every state that was lent at the start, x being what all its ticks leave
 --   going-stand, -none       at the start: what the deadlines ask, and that none was made
---   going-pass, -rests, -dates, -fires, -last
---                            what the next tick asks, a tick in which no node fired, what the deadline of a node that fired asks, a tick in which one did, and the last such tick
+--   going-pass, -quiets, -jumps, -less, -dates, -fires, -last
+--                            what the next tick asks; where no node fired in it, what the jump asks, what it leaves, and that fewer ticks are left; what the deadline of a node that
+--                            fired asks, a tick in which one did, and the last such tick
 --   going-slot               where that deadline is kept
 --   going-ends, -done        at the first outcome that is not clean, and after the last tick
 use mathlib.Core.Path.{_≡_, refl, sym, ap, subst, _∙_}
 use mathlib.Core.Logic.{_≢_, _⊎_, inl, inr, ⊎-elim, by-cases}
 use mathlib.Core.Bool.{Bool, true, false, cond}
 use mathlib.Core.List.{List}
-use Prim.Native.Nat.{ℕ, suc, _+_, _-_, _≤_, _<_}
+use Prim.Native.Nat.{ℕ, suc, _+_, _-_, _≤_, _<_, _∣_}
 use native.Mathlib.Decide.{ℕ-discrete}
 use native.Mathlib.Omega.{arith}
 use lib.Dec.{ltb}
 use lib.ListN.{length, getD, set, length-set}
 use lib.Seq.{getD-set-same, getD-set-other}
 use borrow.Author.Tests.{lt-ltb}
-use Rattle.chain.specs.Record.{rowOf}
+use Rattle.chain.specs.Refusals.{Silent}
+use Rattle.chain.specs.Record.{rowOf, workOf}
 use Rattle.chain.specs.declared.Chain.{Chain}
-use Rattle.state.specs.State.{countAt}
+use Rattle.sizing.specs.Plan.{workIn}
+use Rattle.state.specs.State.{countAt, doneAt}
 use Rattle.state.specs.Fired.{Over}
 use Rattle.state.specs.declared.Run.{Run}
-use Rattle.deadline.specs.Question.{datedOf}
-use Rattle.deadline.specs.Dues.{Shown, Dated, DatedGives}
-use Rattle.instants.specs.Steps.{goes, onward, sourced, next, tick, ticks}
+use Rattle.dates.specs.Question.{datedOf}
+use Rattle.dates.specs.Dues.{Shown, Dated, DatedGives}
+use Rattle.instants.specs.Steps.{onward, sourced, next, lacking, chosen, tick, ticks}
 use Rattle.instants.specs.Runs.{ticks-none, ticks-suc}
-use Rattle.instants.specs.Kept.{sourced-others, sourced-held, TickStep, tick-step}
+use Rattle.instants.specs.Kept.{goes-on, goes-no-further, sourced-others, sourced-held, TickStep, tick-step}
+use Rattle.instants.specs.Quiet.{lacking-as, chosen-as, workedFor, for-counts, for-held, for-clock, for-none, quiet-filled, quiet-run}
 use Rattle.instants.specs.declared.Outcome.{Outcome}
 use Rattle.instants.specs.declared.Outcome.the-variants.{Clean, Overflowed, NoDeadline}
 use Rattle.instants.specs.declared.Ticked.{Ticked}
-use Rattle.steps.specs.Lent.{Stands, Known}
-use Rattle.steps.specs.Passed.{Stand, Wanted, DuesGive, PassIn, Passes, PassTo, PassGives}
-use Rattle.steps.specs.Ticked.{as-clean, as-unclean}
+use Rattle.steps.specs.Lent.{workedIn, Stands}
+use Rattle.steps.specs.Laws.{for-done, shows-as}
+use Rattle.steps.specs.Passed.{Stand, Wanted, DuesGive, Known, PassIn, Passes, PassTo, PassGives}
+use Rattle.steps.specs.Begun.{as-clean, as-unclean}
+use Rattle.steps.specs.Jumped.{Quiets, QuietGives, JumpedGives}
 use Rattle.steps.specs.declared.Passed.{Passed}
 use Rattle.ticks.specs.Runs.{LendsIn, Lends, RanTo, RanGives}
 use Rattle.ticks.specs.declared.Ended.{Ended}
@@ -45,24 +50,9 @@ use Rattle.ticks.specs.declared.Ended.{Ended}
 kept-as : (c : Chain) (s t : Run) (j : ℕ) {v : ℕ} → countAt t (suc j) ≡ countAt s (suc j) → v ≡ datedOf c (suc j) (next s (suc j)) → v ≡ datedOf c (suc j) (next t (suc j))
 kept-as c s t j e h = h ∙ ap (λ (n : ℕ). datedOf c (suc j) (suc n)) (sym e)
 
--- what follows a clean outcome, and that nothing follows another
-module _ (r : Ticked) (f : Run → Ticked) where
-  goes-on : r .outcome ≡ Clean → onward r f ≡ f (r .run)
-  unfolding onward goes
-  goes-on h = ap (λ (o : Outcome). goes o (r .run) f) h
-
-  goes-no-further : (r .outcome ≡ Clean → ⊥) → onward r f ≡ r
-  unfolding onward
-  goes-no-further = by (r .outcome) (r .run)
-    where
-      by : (o : Outcome) (u : Run) → (o ≡ Clean → ⊥) → goes o u f ≡ record { outcome = o; run = u }
-      by Clean u n = absurd (n refl)
-      by (Overflowed t q) u n = refl
-      by (NoDeadline t i) u n = refl
-
 -- a state that is lent for a tick is one that a tick can be made of
 stands-in : {l f e : List ℕ} {t T : ℕ} {c : Chain} {s : Run} → LendsIn l f e t T c s → 0 < T → Stands l f c s
-stands-in a some = record { shown = a .shown; running = a .running; counts = λ i n. omega (arith, a .counts i n) }
+stands-in a some = record { shown = a .shown; filled = a .filled; counts = λ i n. omega (arith, a .counts i n) }
 
 -- how ticks end with one that leaves r, and where all are clean up to clock k
 abbrev pub endedBy : Passed → Ended
@@ -88,7 +78,7 @@ pub record Going (l f e : List ℕ) (t T : ℕ) (g o h : List ℕ) (k U i : ℕ)
 -- the start
 module _ {l f e : List ℕ} {t T : ℕ} where
   pub going-stand : Lends l f e t T → Stand l f
-  going-stand a = record { chain = a .chain; run = a .run; stands = record { shown = a .lends .shown; running = a .lends .running; counts = a .counts } }
+  going-stand a = record { chain = a .chain; run = a .run; stands = record { shown = a .lends .shown; filled = a .lends .filled; counts = a .counts } }
 
   module _ {d : List ℕ} (g : DuesGive l f (ltb 1 T) 16 d) (wide : length d ≡ 16) where
     module _ {c : Chain} {s : Run} (a : LendsIn l f e t T c s) where
@@ -128,7 +118,7 @@ module _ {l g o h : List ℕ} {k U i : ℕ} {c : Chain} {x : Ticked} (y : Gone l
   }
 
   -- after it
-  module _ {u v : List ℕ} {r : Passed} (p : PassTo c now u v r) where
+  module _ {u v : List ℕ} {r : Passed} (p : PassTo c now k u v r) where
     rest-is : onward (tick c now) (ticks c (U - (k + 1))) ≡ x
     rest-is = sym (ticks-suc c (U - (k + 1)) now) ∙ ap (λ (n : ℕ). ticks c n now) (omega arith) ∙ y .rest
 
@@ -143,7 +133,7 @@ module _ {l g o h : List ℕ} {k U i : ℕ} {c : Chain} {x : Ticked} (y : Gone l
       went = p .outcome ∙ as-clean (r .kind) (r .tick) (r .node) z
 
       after : TickStep c now (tick c now .run)
-      after = tick-step (y .lends .running) went
+      after = tick-step (y .lends .filled) went
 
       shown-next : Shown l u c (tick c now .run)
       shown-next = record { plans = y .lends .shown .plans; shows = p .shows }
@@ -154,7 +144,7 @@ module _ {l g o h : List ℕ} {k U i : ℕ} {c : Chain} {x : Ticked} (y : Gone l
         now = tick c now .run;
         lends = record {
           shown = shown-next;
-          running = after .running;
+          filled = after .filled;
           clock = after .clock ∙ ap (λ (n : ℕ). n + 1) (y .lends .clock);
           done = p .done;
           long = omega (arith, y .lends .long);
@@ -180,7 +170,7 @@ module _ {l g o h : List ℕ} {k U i : ℕ} {c : Chain} {x : Ticked} (y : Gone l
           chain = c;
           run = tick c now .run;
           shown = shown-next;
-          sound = y .lends .running .chain .chain;
+          sound = y .lends .filled .chain .chain;
           node = p .low;
           count = omega (arith, after .counts (r .node) (p .low), y .lends .counts (r .node) (p .low));
         }
@@ -196,6 +186,68 @@ module _ {l g o h : List ℕ} {k U i : ℕ} {c : Chain} {x : Ticked} (y : Gone l
                 (λ a.
                 let there : j ≢ r .node - 1 = λ e. a (omega (arith, p .some b)) in
                 getD-set-other o (r .node - 1) j w 0 there ∙ kept-as c now (tick c now .run) j (p .others z j (λ e f. a (sym f))) (y .keeps more j n (inl m)))
+
+-- the quiet ticks that follow, of a state in which the node that works is known
+module _ {l g o h : List ℕ} {k U i : ℕ} {c : Chain} {x : Ticked} (y : Gone l g o h k U i c x) (low : i ≤ c .n) where
+  stands : Silent (lacking c (y .now)) × (chosen c (y .now) ≡ i)
+  stands = y .known (omega (arith, low, y .lends .shown .shows .few))
+
+  -- the work done and the execution time of its node, by the chain and by what is lent
+  own-work : (j : ℕ) → i ≡ suc j → (getD h j 0 ≡ doneAt (y .now) j) × (workIn l j ≡ workOf c j)
+  own-work j z = (ap (λ (e : List ℕ). getD e j 0) (y .lends .done), y .lends .shown .plans .works j (omega (arith, low)))
+
+  quiets : k ≤ U → Quiets l h k U i
+  quiets late = record {
+    work = record {
+      node = omega (arith, low, y .lends .shown .shows .few);
+      less = λ j z. let w = own-work j z in omega (arith, w .0, w .1, y .lends .filled .below j (omega (arith, low)));
+    };
+    short = λ j z. let w = own-work j z in omega (arith, w .1, y .lends .filled .chain .chain .work j (omega (arith, low)) .1);
+    period = omega (arith, y .lends .shown .plans .period, y .lends .filled .chain .chain .period .0);
+    late = late;
+    end = omega (arith, late, y .lends .long);
+  }
+
+  -- so many of them are a jump
+  module _ {r : ℕ} (q : QuietGives l h k U i r) where
+    abbrev then : Run
+    then = workedFor (y .now) i r
+
+    on : (j : ℕ) → i ≡ suc j → doneAt (y .now) j + r < workOf c j
+    on j z = let w = own-work j z in omega (arith, w .0, w .1, q .on j z)
+
+    rests : (m : ℕ) → m < r → c .period ∣ (y .now .clock + m) → ⊥
+    rests m b d = q .rests m b (subst (λ (e : ℕ). e ∣ (k + m)) (sym (y .lends .shown .plans .period)) (subst (λ (t : ℕ). c .period ∣ (t + m)) (y .lends .clock) d))
+
+    same-count : (j : ℕ) → countAt then j ≡ countAt (y .now) j
+    same-count j = ap (λ (e : List ℕ). getD e j 0) (for-counts (y .now) r i)
+
+    gone-jumps : {u : List ℕ} → u ≡ workedIn h i r → Gone l g o u (k + r) U i c x
+    gone-jumps {u} done =
+        let as-counts = for-counts (y .now) r i in
+        let as-held = for-held (y .now) r i in
+        let left : U - k ≡ r + (U - (k + r)) = omega (arith, q .within) in
+        record {
+          now = then;
+          lends = record {
+            shown = record { plans = y .lends .shown .plans; shows = shows-as (y .lends .shown .shows) as-counts as-held };
+            filled = quiet-filled r (y .lends .filled) i on;
+            clock = for-clock (y .now) r i ∙ ap (λ (t : ℕ). t + r) (y .lends .clock);
+            done = done ∙ ap (λ (e : List ℕ). workedIn e i r) (y .lends .done) ∙ sym (for-done (y .now) i r);
+            long = omega (arith, q .within, y .lends .long);
+            counts = λ j n. omega (arith, same-count j, y .lends .counts j n, left);
+          };
+          rest = sym (quiet-run r (U - (k + r)) (y .lends .filled) (stands .0) i (stands .1) rests on) ∙ ap (λ (n : ℕ). ticks c n (y .now)) (sym left) ∙ y .rest;
+          keeps = λ m j n w. kept-as c (y .now) then j (same-count (suc j)) (keeps-now m j n w);
+          wide = y .wide;
+          known = λ b. (subst Silent (sym (lacking-as c (y .now) then as-counts as-held)) (stands .0), chosen-as c (y .now) then as-counts as-held ∙ stands .1);
+        }
+      where
+        -- a node that the source's step leaves over threshold at the end of the jump is one whose deadline was kept
+        keeps-now : k + r < U → (j : ℕ) → j < c .n → (k + r + 1 < U) ⊎ Over c (sourced c then .run) (suc j) → getD o j 0 ≡ datedOf c (suc j) (next (y .now) (suc j))
+        keeps-now m j n w = by-cases (ℕ-discrete r 0)
+            (λ z. y .keeps (omega arith) j n (⊎-elim (λ b. inl (omega arith)) (λ b. inr (subst (λ (s : Run). Over c (sourced c s .run) (suc j)) (ap (workedFor (y .now) i) z ∙ for-none (y .now) i) b)) w))
+            (λ z. y .keeps (omega arith) j n (inl (omega arith)))
 
 -- as the code of the ticks has it
 module _ {l f e : List ℕ} {t T : ℕ} {g o h : List ℕ} {k U i : ℕ} (y : Going l f e t T g o h k U i) where
@@ -214,7 +266,7 @@ module _ {l f e : List ℕ} {t T : ℕ} {g o h : List ℕ} {k U i : ℕ} (y : Go
     going-pass a = record { chain = a .chain; run = y .gives (a .lends) .now; is = asks-now (y .gives (a .lends)) more }
 
     module _ {u v : List ℕ} {r : Passed} (p : PassGives l g o h k i u v r) where
-      passed : {c : Chain} {s : Run} (a : LendsIn l f e t T c s) → PassTo c (y .gives a .now) u v r
+      passed : {c : Chain} {s : Run} (a : LendsIn l f e t T c s) → PassTo c (y .gives a .now) k u v r
       passed a = p .gives (asks-now (y .gives a) more)
 
       node-low : Lends l f e t T → r .node ≤ 16
@@ -224,8 +276,21 @@ module _ {l f e : List ℕ} {t T : ℕ} {g o h : List ℕ} {k U i : ℕ} (y : Go
       going-ends n a = record { low = node-low a; gives = λ b. ends-now (y .gives b) more (passed b) n }
 
       module _ (z : r .kind ≡ 0) where
-        pub going-rests : r .fired ≡ false → Going l f e t T u o v (k + 1) U (r .node)
-        going-rests n = record { gives = λ a. gone-rests (y .gives a) more (passed a) z n }
+        -- no node has fired: the quiet ticks that follow are a jump
+        module _ (n : r .fired ≡ false) where
+          rested : {c : Chain} {s : Run} (a : LendsIn l f e t T c s) → Gone l u o v (k + 1) U (r .node) c (ticks c T s)
+          rested a = gone-rests (y .gives a) more (passed a) z n
+
+          pub going-quiets : Lends l f e t T → Quiets l v (k + 1) U (r .node)
+          going-quiets a = quiets (rested (a .lends)) (passed (a .lends) .low) (omega arith)
+
+          pub going-jumps : {w : List ℕ} {m : ℕ} → JumpedGives l v (k + 1) U (r .node) w m → Going l f e t T u o w m U (r .node)
+          going-jumps {w} {m} q = record {
+            gives = λ {c} {s} a. subst (λ (j : ℕ). Gone l u o w j U (r .node) c (ticks c T s)) (sym (q .clock)) (gone-jumps (rested a) (passed a .low) (q .quiet) (q .done));
+          }
+
+          pub going-less : {w : List ℕ} {m : ℕ} → JumpedGives l v (k + 1) U (r .node) w m → U - m < U - k
+          going-less q = omega (arith, q .clock, q .quiet .within)
 
         pub going-last : U ≤ k + 1 → Going l f e t T u o v (k + 1) U 17
         going-last end = record { gives = λ a. gone-last (y .gives a) more (passed a) z end }

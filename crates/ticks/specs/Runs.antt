@@ -1,5 +1,5 @@
 -- What the code of the ticks asks and gives, of a tick and of a deadline run alike.
---   LendsIn l f e t T c s    the plan l, the flow f and the work done e show the state s of the chain c, which passes 17, at its clock t, and T ticks can be made of it
+--   LendsIn l f e t T c s    the plan l, the flow f and the work done e show the state s of the chain c, which is filled, at its clock t, and T ticks can be made of it
 --   Lends                    there is such a state, and every count can grow
 --   RanTo c x g h r          the flow g, the work done h and the answer r show x, what ticks leave
 --   RanGives l f e t T g h r they show what T ticks leave of every such state
@@ -11,18 +11,18 @@ use Rattle.sizing.specs.Checks.{limit}
 use Rattle.state.specs.State.{countAt}
 use Rattle.state.specs.declared.Run.{Run}
 use Rattle.flow.specs.Flow.{Shows}
-use Rattle.deadline.specs.Dues.{Shown}
+use Rattle.dates.specs.Dues.{Shown}
 use Rattle.instants.specs.Steps.{ticks}
 use Rattle.instants.specs.Checks.{longest}
-use Rattle.instants.specs.Kept.{Running}
+use Rattle.instants.specs.Kept.{Filled}
 use Rattle.instants.specs.declared.Ticked.{Ticked}
 use Rattle.steps.specs.Lent.{outcomeAs}
 use Rattle.ticks.specs.declared.Ended.{Ended}
 
--- a state that passes 17 is lent at its clock t; T ticks are no longer than the longest run, and no count passes the limit in them
+-- a state that is filled is lent at its clock t; T ticks are no longer than the longest run, and no count passes the limit in them
 pub record LendsIn (l f e : List ℕ) (t T : ℕ) (c : Chain) (s : Run) : Type 0 where
   pub shown : Shown l f c s
-  pub running : Running c s
+  pub filled : Filled c s
   pub clock : s .clock ≡ t
   pub done : e ≡ s .done
   pub long : t + T ≤ longest

@@ -1,5 +1,6 @@
 // One tick of a run state, by value, and the deadline run from a fresh start. Both make the same pass over what they lend:
-// a tick once, a run for every tick, its chain being checked once and a node's deadline kept until the node fires.
+// a tick once, a run for every tick that is not quiet, its chain being checked once and a node's deadline kept until the
+// node fires.
 ghost use mathlib.Core.Path.{_≡_};
 ghost use Prim.Native.Nat.{_≤_};
 ghost use Rattle.chain.specs.Refusals.{orElse};
@@ -113,7 +114,8 @@ fn late_check(chain: Chain, run: Run) -> Refusal
 }
 
 // So many ticks of the state that is lent, from its clock on, up to the first outcome that is not clean. A single tick looks
-// at few deadlines. After the last no deadline is made, since the node that fired may have no next firing.
+// at few deadlines. After the last no deadline is made, since the node that fired may have no next firing. Where none has
+// fired, the choice stands, and the quiet ticks that follow are one step.
 fn passes(
     plan: &[u32; PLAN],
     flow: &mut [u32; LENGTH],
@@ -141,9 +143,11 @@ fn passes(
         clock += 1;
         if passed.fired {
             if clock < until {
-                due[node - 1] = deadline::dated(plan, flow, node);
+                due[node - 1] = dates::dated(plan, flow, node);
             }
             node = STALE;
+        } else {
+            clock = steps::jumped(plan, done, clock, until, node);
         }
     }
     Ended {

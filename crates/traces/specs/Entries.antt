@@ -28,7 +28,7 @@ use Rattle.chain.specs.Record.{workOf}
 use Rattle.chain.specs.declared.Chain.{Chain}
 use Rattle.state.specs.State.{countAt, doneAt, freshRun}
 use Rattle.state.specs.declared.Run.{Run}
-use Rattle.history.specs.History.{times}
+use Rattle.history.specs.History.{Entry, nodes, times}
 use Rattle.instants.specs.Checks.{deadlineRunAnswer}
 use Rattle.instants.specs.Steps.{clean, goes, onward, divides, begun, chosen, worked, ended, finished, advanced, tick, ticks, instants}
 use Rattle.instants.specs.Kept.{source-cases, onward-cases, begun-clean, worked-clock, fired-clock}
@@ -39,7 +39,7 @@ use Rattle.instants.specs.declared.Outcome.{Outcome}
 use Rattle.instants.specs.declared.Outcome.the-variants.{Clean, Overflowed, NoDeadline}
 use Rattle.instants.specs.declared.Ticked.{Ticked}
 use Rattle.instants.specs.declared.TickAnswer.{TickAnswer}
-use Rattle.traces.specs.Trace.{Entry, nodes, tracing, sourceEntry, finishEntry, finishTrace, tickTrace, trace}
+use Rattle.traces.specs.Trace.{tracing, sourceEntry, finishEntry, finishTrace, tickTrace, trace}
 use Rattle.traces.specs.Traced.{run-counted}
 use Rattle.traces.specs.Rising.{Rising, run-rising}
 

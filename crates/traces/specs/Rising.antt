@@ -17,13 +17,14 @@ use Rattle.state.specs.State.{freshRun}
 use Rattle.state.specs.Fired.{fired}
 use Rattle.state.specs.Checks.{cramped}
 use Rattle.state.specs.declared.Run.{Run}
+use Rattle.history.specs.History.{Entry}
 use Rattle.instants.specs.Steps.{clean, overflowed, undated, onward, goes, divides, sourced, lacking, begun, chosen, worked, ended, finish, finished, advanced, tick, ticks, instants}
 use Rattle.instants.specs.Kept.{finish-cases, worked-clock}
 use Rattle.instants.specs.Fresh.{run-is-ticks}
 use Rattle.instants.specs.declared.Outcome.{Outcome}
 use Rattle.instants.specs.declared.Outcome.the-variants.{Clean, Overflowed, NoDeadline}
 use Rattle.instants.specs.declared.Ticked.{Ticked}
-use Rattle.traces.specs.Trace.{Entry, tracing, sourceEntry, finishEntry, finishTrace, tickTrace, trace}
+use Rattle.traces.specs.Trace.{tracing, sourceEntry, finishEntry, finishTrace, tickTrace, trace}
 
 -- each instant is that of the entry before or a later one, from a to b
 unfoldable pub Rising : ℕ → List Entry → ℕ → Type 0

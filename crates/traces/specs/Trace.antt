@@ -1,6 +1,4 @@
 -- The trace of a deadline run: the instants and the nodes of its firings, in order (01, Firing, and demand 3).
---   Entry                      an instant and a node
---   nodes h                    the nodes of a trace, in order
 --   tracing o s f              what f says of a state that was left clean; nothing after any other outcome
 --   sourceEntry c s            the source's firing at the clock of s, if y divides it
 --   finishEntry s i            the firing of N_i that takes effect at the clock of s; none of N_0
@@ -11,23 +9,15 @@
 --   Replays c s h t            manual firing accepts the nodes of h in turn, from the counts and contents of s, and leaves those of t
 use mathlib.Core.Path.{_≡_}
 use mathlib.Core.Bool.{cond}
-use mathlib.Core.List.{List, [], _∷_, _++_, map}
+use mathlib.Core.List.{List, [], _∷_, _++_}
 use Prim.Native.Nat.{ℕ, zero, suc, _+_}
 use lib.ListN.{replicate}
 use Rattle.chain.specs.declared.Chain.{Chain}
 use Rattle.state.specs.declared.Run.{Run}
-use Rattle.history.specs.History.{after, Permitted}
+use Rattle.history.specs.History.{Entry, nodes, after, Permitted}
 use Rattle.instants.specs.Steps.{divides, begun, endedIn, ended, finished, advanced, tick}
 use Rattle.instants.specs.declared.Outcome.{Outcome}
 use Rattle.instants.specs.declared.Outcome.the-variants.{Clean, Overflowed, NoDeadline}
-
--- an instant, and the node whose firing takes effect then
-abbrev pub Entry : Type 0
-Entry = ℕ × ℕ
-
--- the nodes of a trace, in order
-abbrev pub nodes : List Entry → List ℕ
-nodes h = map (λ (e : Entry). e .1) h
 
 -- there are entries where nothing has ended the run
 unfoldable pub tracing : Outcome → Run → (Run → List Entry) → List Entry

@@ -1,10 +1,15 @@
 -- The firings of a deadline run are a permitted history (01, Firing, and demand 3).
+--   tracing-none               nothing is said after an outcome that ends a run
+--   finish-entry               the firing that is finished, by the node whose work is done
+--   tick-entries, tick-entries-none
+--                              the firings of a tick that goes on behind the source's step and 13, and of one that does not
 --   replays-none, -one, -then  no firing, a firing that may be, and one trace after the other
+--   finish-traced              one tick of work, and the effect of the firing that it finished
 --   tick-traced, traced        one tick, and so many of them
 --   run-traced                 a deadline run from a fresh start
 --   run-counted, run-balance, run-naming
 --                              so its counts, its balance and the naming count are those of a permitted history
-use mathlib.Core.Path.{_≡_, refl, sym, ap, subst, _∙_}
+use mathlib.Core.Path.{_≡_, refl, sym, ap, ap₂, subst, _∙_}
 use mathlib.Core.Logic.{by-cases}
 use mathlib.Core.Bool.{Bool, true, false, cond}
 use mathlib.Core.List.{List, [], _∷_, _++_, map-append}
@@ -24,18 +29,42 @@ use Rattle.state.specs.Fired.{fired, Over, May, Balance}
 use Rattle.state.specs.Checks.{cramped, StateSound}
 use Rattle.state.specs.Fire.{firing-is}
 use Rattle.state.specs.declared.Run.{Run}
-use Rattle.history.specs.History.{times, after, Permitted, HasHeld, after-append, EachFiring, each-append}
+use Rattle.history.specs.History.{Entry, nodes, times, after, Permitted, HasHeld, after-append, EachFiring, each-append}
 use Rattle.history.specs.Laws.{counted, balance, naming}
 use Rattle.instants.specs.Checks.{longest}
 use Rattle.instants.specs.Steps.{clean, overflowed, undated, onward, goes, withDone, divides, sourced, lacking, begun}
 use Rattle.instants.specs.Steps.{chosen, worked, endedIn, ended, finish, finished, advanced, tick, ticks, instants}
-use Rattle.instants.specs.Kept.{finish-cases, Running, SourceStep, Countable, source-may, sourced-clean, begun-clean, chosen-over}
+use Rattle.instants.specs.Kept.{finish-cases, Running, running-filled, SourceStep, source-running, Countable, source-may, sourced-clean, begun-clean, chosen-over, goes-on, goes-no-further}
 use Rattle.instants.specs.Kept.{worked-counts, worked-held, worked-other, worked-same, cleared-running, finish-may, tick-step}
 use Rattle.instants.specs.Fresh.{Paced, fresh-paced, paced-countable, tick-paced, run-is-ticks}
 use Rattle.instants.specs.declared.Outcome.{Outcome}
 use Rattle.instants.specs.declared.Outcome.the-variants.{Clean, Overflowed, NoDeadline}
 use Rattle.instants.specs.declared.Ticked.{Ticked}
-use Rattle.traces.specs.Trace.{Entry, nodes, tracing, sourceEntry, finishEntry, finishTrace, tickTrace, trace, resting, Replays}
+use Rattle.traces.specs.Trace.{tracing, sourceEntry, finishEntry, finishTrace, tickTrace, trace, resting, Replays}
+
+-- nothing is said after an outcome that ends a run
+pub tracing-none : (o : Outcome) (s : Run) (f : Run → List Entry) → (o ≡ Clean → ⊥) → tracing o s f ≡ []
+unfolding tracing
+tracing-none Clean s f n = absurd (n refl)
+tracing-none (Overflowed t q) s f n = refl
+tracing-none (NoDeadline t i) s f n = refl
+
+-- the firing that is finished, by the node whose work is done
+pub finish-entry : (c : Chain) (s : Run) {i : ℕ} → ended c s ≡ i → finishTrace c s ≡ tracing (finish c s i .outcome) s (λ u. finishEntry s i)
+unfolding finishTrace finished
+finish-entry c s e = ap (λ (i : ℕ). tracing (finish c s i .outcome) s (λ u. finishEntry s i)) e
+
+-- the firings of a tick that ends with the source's step or 13, and of one that goes on
+module _ (c : Chain) (s : Run) where
+  pub tick-entries-none : (begun c s .outcome ≡ Clean → ⊥) → tickTrace c s ≡ []
+  unfolding tickTrace advanced
+  tick-entries-none n =
+      ap₂ _++_ (tracing-none (begun c s .outcome) s _ n) (ap (λ (x : Ticked). tracing (x .outcome) (x .run) (finishTrace c)) (goes-no-further (begun c s) _ n) ∙ tracing-none (begun c s .outcome) (begun c s .run) _ n)
+
+  pub tick-entries : begun c s .outcome ≡ Clean
+      → tickTrace c s ≡ tracing (begun c s .outcome) s (λ u. sourceEntry c s) ++ finishTrace c (worked (begun c s .run) (chosen c (begun c s .run)))
+  unfolding tickTrace advanced tracing
+  tick-entries h = ap (λ (x : Ticked). tracing (begun c s .outcome) s (λ u. sourceEntry c s) ++ tracing (x .outcome) (x .run) (finishTrace c)) (goes-on (begun c s) _ h)
 
 -- a state that passes 17 passes it at rest
 resting-sound : {c : Chain} {s : Run} → Running c s → StateSound c (resting s)
@@ -93,7 +122,7 @@ module _ {c : Chain} {s : Run} (r : Running c s) (some : Countable c s) where
 
       by : (d x : Bool) → cramped c s 0 ≡ x → Replays c s (tracing (step d x .outcome) s (λ u. cond d ((s .clock, 0) ∷ []) [])) (step d x .run)
       by true true e = replays-none c s s refl refl
-      by true false e = dated (fired c s 0) ((s .clock, 0) ∷ []) (replays-one c s r (s .clock) 0 (source-may r (some 0 (omega arith)) e))
+      by true false e = dated (fired c s 0) ((s .clock, 0) ∷ []) (replays-one c s r (s .clock) 0 (source-may c s (some 0 (omega arith)) e))
       by false x e = dated s [] (replays-none c s s refl refl)
 
 -- a node whose work is done is one of the chain's
@@ -119,12 +148,12 @@ effected c s j r may = finish-cases c s j (λ x. Replays c s (tracing (x .outcom
     (λ e. replays-one c (withDone s j 0) r (s .clock) (suc j) (may e))
 
 -- one tick of work after the source's step, and the effect of the firing that it finished
-module _ {c : Chain} {s u : Run} (k : SourceStep c s u) (some : Countable c s) where
+module _ {c : Chain} {s u : Run} (r : Running c u) (k : SourceStep c s u) (some : Countable c s) where
   -- N_(j+1) has worked its last tick
   last-effected : (j : ℕ) → j < c .n → doneAt u j + 1 ≡ workOf c j → Over c u (suc j) → Effected c (worked u (suc j)) (suc j)
   last-effected j l all over =
       let other : countAt u (suc j) ≡ countAt s (suc j) = k .others (suc j) (omega arith) in
-      effected c (worked u (suc j)) j (cleared-running (k .running) j l all) (finish-may (k .running) j l all over (rw other (some (suc j) l)))
+      effected c (worked u (suc j)) j (cleared-running r j l all) (finish-may c u j l over (rw other (some (suc j) l)))
 
   -- N_i has worked a tick, and e is the node whose work is done: it is N_i or none
   work-effected : (i e : ℕ) → ended c (worked u i) ≡ e → ((j : ℕ) → i ≡ suc j → Over c u (suc j)) → Effected c (worked u i) e
@@ -132,17 +161,17 @@ module _ {c : Chain} {s u : Run} (k : SourceStep c s u) (some : Countable c s) w
   work-effected i zero h over = replays-none c (worked u i) (worked u i) refl refl
   work-effected i (suc j) h over =
       let f : (j < c .n) × (workOf c j ≤ doneAt (worked u i) j) = ended-found c (worked u i) (c .n) j h in
-      let low : doneAt u j < workOf c j = k .running .state j (f .0) .1 in
+      let low : doneAt u j < workOf c j = k .filled .below j (f .0) in
       by-cases (ℕ-discrete i (suc j)) (λ e. own (f .0) low e (f .1)) (λ n. absurd (omega (arith, f .1, low, worked-other u i j n)))
     where
       own : j < c .n → doneAt u j < workOf c j → i ≡ suc j → workOf c j ≤ doneAt (worked u i) j → Effected c (worked u i) (suc j)
       own l low e done =
           let at : workOf c j ≤ doneAt (worked u (suc j)) j = subst (λ (x : ℕ). workOf c j ≤ doneAt (worked u x) j) e done in
-          let once : doneAt (worked u (suc j)) j ≡ doneAt u j + 1 = worked-same u j (omega (arith, k .running .whole .done, k .running .chain .chain .count .1)) in
+          let once : doneAt (worked u (suc j)) j ≡ doneAt u j + 1 = worked-same u j (omega (arith, r .whole .done, r .chain .chain .count .1)) in
           subst (λ (x : ℕ). Effected c (worked u x) (suc j)) (sym e) (last-effected j l (omega (arith, low, at, once)) (over j e))
 
   -- the whole step of work
-  finish-traced : (i : ℕ) → ((j : ℕ) → i ≡ suc j → Over c u (suc j)) → Replays c u (finishTrace c (worked u i)) (finished c (worked u i) .run)
+  pub finish-traced : (i : ℕ) → ((j : ℕ) → i ≡ suc j → Over c u (suc j)) → Replays c u (finishTrace c (worked u i)) (finished c (worked u i) .run)
   unfolding finishTrace finished
   finish-traced i over =
       replays-then c u (worked u i) (finished c (worked u i) .run) [] (finishTrace c (worked u i))
@@ -158,7 +187,7 @@ module _ {c : Chain} {s : Run} (r : Running c s) (some : Countable c s) where
       first : begun c s .outcome ≡ Clean → SourceStep c s (begun c s .run)
       first h =
           let b = begun-clean c s h in
-          subst (λ (x : Ticked). SourceStep c s (x .run)) (sym (b .1 .1)) (sourced-clean r (b .0))
+          subst (λ (x : Ticked). SourceStep c s (x .run)) (sym (b .1 .1)) (sourced-clean (running-filled r) (b .0))
 
       work : Run → Ticked
       work u = clean (worked u (chosen c u))
@@ -168,7 +197,7 @@ module _ {c : Chain} {s : Run} (r : Running c s) (some : Countable c s) where
           (goes (goes o v work .outcome) (goes o v work .run) (finished c) .run)
       by Clean v step k =
           replays-then c s v (finished c (worked v (chosen c v)) .run) (sourceEntry c s) (finishTrace c (worked v (chosen c v))) k
-          (finish-traced (step refl) some (chosen c v) (chosen-over c v))
+          (finish-traced (source-running r (step refl)) (step refl) some (chosen c v) (chosen-over c v))
       by (Overflowed t q) v step k = k
       by (NoDeadline t i) v step k = k
 
@@ -179,7 +208,7 @@ traced {c} zero {s} p l = replays-none c s s refl refl
 traced {c} (suc T) {s} p l = by (tick c s .outcome) (tick c s .run) next (tick-traced (p .running) (paced-countable p (omega arith))) (λ v q m. traced T q m)
   where
     next : tick c s .outcome ≡ Clean → Paced c (tick c s .run) × (tick c s .run .clock + T ≤ longest)
-    next h = (tick-paced p h, omega (arith, tick-step (p .running) h .clock))
+    next h = (tick-paced p h, omega (arith, tick-step (running-filled (p .running)) h .clock))
 
     by : (o : Outcome) (v : Run) → (o ≡ Clean → Paced c v × (v .clock + T ≤ longest)) → Replays c s (tickTrace c s) v
         → ((v : Run) → Paced c v → v .clock + T ≤ longest → Replays c v (trace c T v) (ticks c T v .run))

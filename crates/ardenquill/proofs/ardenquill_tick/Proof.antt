@@ -50,7 +50,7 @@ use Rattle.ardenquill.specs.Flat.{coded, isClean, unclean-stays}
 use Rattle.ardenquill.specs.declared.OutcomeAnswer.{OutcomeAnswer}
 use Rattle.state.specs.declared.Run.{Run}
 use Rattle.chain.specs.declared.Chain.{Chain}
-use Rattle.past.specs.Runs.{Whole}
+use Rattle.slots.specs.Runs.{Whole}
 use Rattle.instants.specs.declared.TickAnswer.{TickAnswer}
 use Rattle.state.proofs.Run as T
 use Rattle.state.proofs.Run.Laws as T′

@@ -2,12 +2,12 @@
 use Prim.Native.Nat.{_-_}
 use native.Mathlib.Nat.{zero-add}
 use borrow.Author.Needs.{needs}
-use Rattle.flow.specs.Shown.{Filled, filled-none, filled-more, filled-shows}
+use Rattle.flow.specs.Shown.{Entered, entered-none, entered-more, entered-shows}
 use Rattle.flow.proofs.started.Statement.{statement}
 use Rattle.flow.proofs.started.Tie as tie
 
 abbrev Inv-loop : tie.InvT-loop
-Inv-loop chain n flow₀ i₀ flow i = Filled chain i flow
+Inv-loop chain n flow₀ i₀ flow i = Entered chain i flow
 
 abbrev μ-loop : tie.MeasureT-loop
 μ-loop chain n flow₀ i₀ flow i = n - i
@@ -19,7 +19,7 @@ array-write-flow : tie.Need-array-write-flow Inv-loop μ-loop
 array-write-flow c = search needs
 
 loop-holds : tie.Need-loop-holds Inv-loop μ-loop
-loop-holds c = filled-none _
+loop-holds c = entered-none _
 
 mul-q : tie.Need-mul-q Inv-loop μ-loop
 mul-q c = search needs
@@ -61,10 +61,10 @@ loop-less : tie.Need-loop-less Inv-loop μ-loop
 loop-less c = search needs
 
 loop-again : tie.Need-loop-again Inv-loop μ-loop
-loop-again c = rw zero-add (filled-more (c .before .before .before .pre .count .1) (c .before .before .loop .inv) (c .before .loop-test .taken))
+loop-again c = rw zero-add (entered-more (c .before .before .before .pre .count .1) (c .before .before .loop .inv) (c .before .loop-test .taken))
 
 returns : tie.Need-returns Inv-loop μ-loop
-returns c = filled-shows (c .before .before .pre) (c .loop-test .left) (c .before .loop .inv)
+returns c = entered-shows (c .before .before .pre) (c .loop-test .left) (c .before .loop .inv)
 
 pub started-spec : {M : Type 1} → statement M
 started-spec =

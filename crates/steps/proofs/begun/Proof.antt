@@ -1,7 +1,6 @@
 -- `steps::begun` meets its contract: the source's step is not clean, or the choice stands, or a deadline cannot be had, or a node is chosen.
-use mathlib.Core.Bool.{true, false}
 use borrow.Author.Needs.{needs}
-use Rattle.steps.specs.Begun.{sourced-as, begun-spills, begun-size, begun-stands, begun-lacks, begun-chooses}
+use Rattle.steps.specs.Begun.{begun-spills, begun-size, begun-stands, begun-lacks, begun-chooses}
 use Rattle.steps.proofs.begun.Statement.{statement}
 use Rattle.steps.proofs.begun.Tie as tie
 
@@ -14,17 +13,20 @@ element-copy-out-held c = search needs
 sourced-requires : tie.Need-sourced-requires
 sourced-requires c κs = search needs
 
-returns : tie.Need-returns
-returns c = begun-spills (sourced-as (c .before .sourced .result) true (c .before .sourced .ensures) (c .if1 .taken))
+started-requires : tie.Need-started-requires
+started-requires c κs = search needs
 
-element-copy-out-if3 : tie.Need-element-copy-out-if3
-element-copy-out-if3 c = search needs
+returns : tie.Need-returns
+returns c = rw (c .started .ensures) (begun-spills (c .before .before .before .sourced .ensures) (c .before .if1 .taken))
+
+started-requires-2 : tie.Need-started-requires-2
+started-requires-2 c κs = search needs
 
 returns-2 : tie.Need-returns-2
-returns-2 c = begun-stands (sourced-as (c .before .before .before .before .sourced .result) false (c .before .before .before .before .sourced .ensures) (c .before .before .before .if1 .left)) (c .before .before .if2 .taken) (c .if3 .taken)
+returns-2 c = rw (c .started2 .ensures) (begun-stands (c .before .before .before .before .before .before .sourced .ensures) (c .before .before .before .before .if1 .left) (c .before .before .before .if2 .taken) (c .before .if3 .taken))
 
 lacking-requires : tie.Need-lacking-requires
-lacking-requires c κs = begun-size (sourced-as (c .before .before .before .sourced .result) false (c .before .before .before .sourced .ensures) (c .before .before .if1 .left)) (c .before .before .before .before .before .before .before .pre)
+lacking-requires c κs = begun-size (c .before .before .before .before .sourced .ensures) (c .before .before .before .before .before .before .before .before .pre)
 
 element-write-flow : tie.Need-element-write-flow
 element-write-flow c = search needs
@@ -32,14 +34,20 @@ element-write-flow c = search needs
 element-write-flow-2 : tie.Need-element-write-flow-2
 element-write-flow-2 c = search needs
 
+started-requires-3 : tie.Need-started-requires-3
+started-requires-3 c κs = search needs
+
 returns-3 : tie.Need-returns-3
-returns-3 c = begun-lacks (sourced-as (c .before .before .before .before .before .sourced .result) false (c .before .before .before .before .before .sourced .ensures) (c .before .before .before .before .if1 .left)) (c .before .lacking .ensures) (c .if4 .taken)
+returns-3 c = rw (c .started3 .ensures) (begun-lacks (c .before .before .before .before .before .before .before .sourced .ensures) (c .before .before .before .before .before .if1 .left) (c .before .before .lacking .ensures) (c .before .if4 .taken))
 
 chosen-requires : tie.Need-chosen-requires
-chosen-requires c κs = begun-size (sourced-as (c .before .before .before .before .before .before .sourced .result) false (c .before .before .before .before .before .before .sourced .ensures) (c .before .before .before .before .before .if1 .left)) (c .before .before .before .before .before .before .before .before .before .before .pre)
+chosen-requires c κs = begun-size (c .before .before .before .before .before .before .before .sourced .ensures) (c .before .before .before .before .before .before .before .before .before .before .before .pre)
+
+started-requires-4 : tie.Need-started-requires-4
+started-requires-4 c κs = search needs
 
 returns-4 : tie.Need-returns-4
-returns-4 c = begun-chooses (sourced-as (c .before .before .before .before .before .before .before .sourced .result) false (c .before .before .before .before .before .before .before .sourced .ensures) (c .before .before .before .before .before .before .if1 .left)) (c .before .before .before .lacking .ensures) (c .before .before .if4 .left) (c .chosen .ensures)
+returns-4 c = rw (c .started4 .ensures) (begun-chooses (c .before .before .before .before .before .before .before .before .before .sourced .ensures) (c .before .before .before .before .before .before .before .if1 .left) (c .before .before .before .before .lacking .ensures) (c .before .before .before .if4 .left) (c .before .chosen .ensures))
 
 pub begun-spec : {M : Type 1} → statement M
 begun-spec =
@@ -48,12 +56,15 @@ begun-spec =
     element-copy-out-count
     element-copy-out-held
     sourced-requires
+    started-requires
     returns
-    element-copy-out-if3
+    started-requires-2
     returns-2
     lacking-requires
     element-write-flow
     element-write-flow-2
+    started-requires-3
     returns-3
     chosen-requires
+    started-requires-4
     returns-4)

@@ -1,4 +1,4 @@
--- `steps::worked` meets its contract: work that is below its execution time can grow.
+-- `steps::worked` meets its contract: the work can grow so far.
 use borrow.Author.Needs.{needs}
 use Prim.Native.Nat.{_-_}
 use native.Mathlib.Omega.{arith}
@@ -25,10 +25,10 @@ element-write-done : tie.Need-element-write-done
 element-write-done c = search needs
 
 returns : tie.Need-returns
-returns c = work-node _ _ (c .before .if1 .taken)
+returns c = work-node _ _ _ (c .before .if1 .taken)
 
 returns-2 : tie.Need-returns-2
-returns-2 c = work-none _ _ (c .if1 .left)
+returns-2 c = work-none _ _ _ (c .if1 .left)
 
 pub worked-spec : {M : Type 1} → statement M
 worked-spec =

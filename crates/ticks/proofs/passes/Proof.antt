@@ -2,7 +2,7 @@
 use Prim.Native.Nat.{_-_}
 use native.Mathlib.Omega.{arith}
 use borrow.Author.Needs.{needs}
-use Rattle.ticks.specs.Passes.{Going, going-stand, going-none, going-pass, going-ends, going-rests, going-dates, going-slot, going-fires, going-last, going-done}
+use Rattle.ticks.specs.Passes.{Going, going-stand, going-none, going-pass, going-ends, going-quiets, going-jumps, going-less, going-dates, going-slot, going-fires, going-last, going-done}
 use Rattle.ticks.proofs.passes.Statement.{statement}
 use Rattle.ticks.proofs.passes.Tie as tie
 
@@ -54,11 +54,14 @@ loop-less-2 c = search needs
 loop-again-2 : tie.Need-loop-again-2 Inv-loop μ-loop
 loop-again-2 c = going-last (c .before .before .before .before .before .before .before .before .before .loop .inv) (c .before .before .before .before .before .before .before .before .loop-test .taken) (c .before .before .before .before .pass .ensures) (c .before .before .if1 .left) (c .if3 .left)
 
+jumped-requires : tie.Need-jumped-requires Inv-loop μ-loop
+jumped-requires c κs = going-quiets (c .before .before .before .before .before .before .before .before .before .loop .inv) (c .before .before .before .before .before .before .before .before .loop-test .taken) (c .before .before .before .before .pass .ensures) (c .before .before .if1 .left) (c .before .if2 .left) (c .before .before .before .before .before .before .before .before .before .before .before .before .pre)
+
 loop-less-3 : tie.Need-loop-less-3 Inv-loop μ-loop
-loop-less-3 c = search needs
+loop-less-3 c = going-less (c .before .before .before .before .before .before .before .before .before .before .loop .inv) (c .before .before .before .before .before .before .before .before .before .loop-test .taken) (c .before .before .before .before .before .pass .ensures) (c .before .before .before .if1 .left) (c .before .before .if2 .left) (c .jumped .ensures)
 
 loop-again-3 : tie.Need-loop-again-3 Inv-loop μ-loop
-loop-again-3 c = going-rests (c .before .before .before .before .before .before .before .before .loop .inv) (c .before .before .before .before .before .before .before .loop-test .taken) (c .before .before .before .pass .ensures) (c .before .if1 .left) (c .if2 .left)
+loop-again-3 c = going-jumps (c .before .before .before .before .before .before .before .before .before .before .loop .inv) (c .before .before .before .before .before .before .before .before .before .loop-test .taken) (c .before .before .before .before .before .pass .ensures) (c .before .before .before .if1 .left) (c .before .before .if2 .left) (c .jumped .ensures)
 
 returns-2 : tie.Need-returns-2 Inv-loop μ-loop
 returns-2 c = going-done (c .before .loop .inv) (c .loop-test .left)
@@ -83,6 +86,7 @@ passes-spec =
     loop-again
     loop-less-2
     loop-again-2
+    jumped-requires
     loop-less-3
     loop-again-3
     returns-2)

@@ -1,2 +1,0 @@
-pub mod Deadline
-pub mod Figures

@@ -1,1 +1,0 @@
-// Deadlines and their laws. This crate has no code.
