@@ -11,6 +11,8 @@
 --   numbered-append, -length, -own
 --                            lists in a row; a number for each check; and a check that speaks has its own
 --   absent, distinct         a number stands in no list; no number of a list is 0 or stands twice
+--   elsewhere k Ns, once k Ns
+--                            the numbers at every place but k; and the one at k is not 0 and is none of them
 --   Others N Ns              N is none of the numbers, of which each is to be shown
 --   number-of, silent-as     equal refusals have equal numbers, and are silent together
 --   or-left, -right, -both   the cases of orElse, as code has them
@@ -24,11 +26,12 @@
 --   test-exact, test-silent  a test speaks exactly where it fails, and is silent exactly where it passes
 --   only-test, -fine, -or, -map, -tab
 --                            what keeps to one number
---   exact-at                 a list says the number of its check k at L exactly when the checks before it are silent and it says so
+--   exact-once               a list says the number of its check k, which stands once, at L exactly when the checks before it are silent and it says so
+--   exact-at                 the same of each check, where no number stands twice
 --   said-earlier             a list says a number that its last checks do not have exactly when the checks before these say it
 use mathlib.Core.Path.{_≡_, refl, sym, ap, ap₂, _∙_}
 use mathlib.Core.Bool.{Bool, true, false, cond, not, _&&_, true≢false}
-use mathlib.Core.Logic.{_↔_, _≢_, _⊎_, inl, inr, ⊎-elim, Iff·trans, Iff·and, Iff·rfl, by-cases}
+use mathlib.Core.Logic.{_↔_, _≢_, _⊎_, inl, inr, ⊎-elim, Iff·trans, Iff·symm, Iff·and, Iff·rfl, true-and, by-cases}
 use mathlib.Core.List.{List, [], _∷_, _++_, map, map-append}
 use Prim.Native.Nat.{ℕ, zero, suc, _+_, _<_}
 use native.Mathlib.Nat.{not-suc-le-zero}
@@ -36,7 +39,7 @@ use native.Mathlib.Decide.{ℕ-discrete}
 use native.Mathlib.Omega.{arith}
 use lib.Dec.{T, T-not, eqb}
 use borrow.Author.Tests.{eq-eqb, ne-eqb}
-use lib.ListN.{length, getD, take}
+use lib.ListN.{length, getD, take, drop}
 use Rattle.words.specs.Flat.{flat}
 use Rattle.words.specs.Table.{tab, tab-last, length-tab, tab-at}
 use Rattle.chain.specs.declared.Refusal.{Refusal}
@@ -253,6 +256,14 @@ abbrev pub distinct : List ℕ → Bool
 distinct [] = true
 distinct (N ∷ Ns) = absent N (0 ∷ Ns) && distinct Ns
 
+-- the numbers at every place but k
+abbrev pub elsewhere : ℕ → List ℕ → List ℕ
+elsewhere k Ns = take k Ns ++ drop (suc k) Ns
+
+-- the number at k is not 0, and stands nowhere else; others may stand twice, as 1 in 1, 2, 1, 3, where 2 and 3 stand once
+abbrev pub once : ℕ → List ℕ → Bool
+once k Ns = absent (getD Ns k 0) (0 ∷ elsewhere k Ns)
+
 -- N is none of the numbers
 abbrev pub Others : ℕ → List ℕ → Type 0
 Others N [] = Unit
@@ -273,11 +284,6 @@ others-at : (N : ℕ) (Ns : List ℕ) → Others N Ns → (k : ℕ) → k < leng
 others-at N [] h k l = absurd (not-suc-le-zero l)
 others-at N (M ∷ Ms) h zero l = h .0
 others-at N (M ∷ Ms) h (suc k) l = others-at N Ms (h .1) k (omega arith)
-
-distinct-at : (Ns : List ℕ) → T (distinct Ns) → (k : ℕ) → k < length Ns → getD Ns k 0 ≢ 0
-distinct-at [] d k l = absurd (not-suc-le-zero l)
-distinct-at (N ∷ Ns) d zero l = λ e. unlike 0 N (both (not (eqb 0 N)) (absent N Ns) (both (absent N (0 ∷ Ns)) (distinct Ns) d .0) .0) (sym e)
-distinct-at (N ∷ Ns) d (suc k) l = distinct-at Ns (both (absent N (0 ∷ Ns)) (distinct Ns) d .1) k (omega arith)
 
 -- there is a number for each check
 pub numbered-length : (Ns : List ℕ) (rs : List Refusal) → Numbered Ns rs → length Ns ≡ length rs
@@ -311,28 +317,42 @@ pub said-earlier : (N L : ℕ) → N ≢ 0 → (ps : List Refusal) (Ns : List �
 said-earlier N L some ps Ns rs o a = rw (first-append ps rs)
     (Iff·trans (or-says N L some (first ps) (first rs)) (⊎-elim (λ e. e) (λ s. absurd (speaks-numbered N some Ns rs o a (number-of (s .1)))), inl))
 
--- a list of checks says the number of its check k at L exactly when the checks before that one are silent and it says so
-pub exact-at : (Ns : List ℕ) (rs : List Refusal) → Numbered Ns rs → T (distinct Ns) → (k L : ℕ) → k < length rs
-    → (first rs ≡ refused (getD Ns k 0) L) ↔ (Silents (take k rs) × (getD rs k fine ≡ refused (getD Ns k 0) L))
+-- a number that no check but check k may have is said exactly when the checks before that one are silent and it says so
+said-alone : (N L : ℕ) → N ≢ 0 → (Ns : List ℕ) (rs : List Refusal) → Numbered Ns rs → (k : ℕ) → Others N (elsewhere k Ns)
+    → (first rs ≡ refused N L) ↔ (Silents (take k rs) × (getD rs k fine ≡ refused N L))
 unfolding first Silents Numbered
-exact-at Ns [] o d k L l = absurd (not-suc-le-zero l)
-exact-at [] (r ∷ rs) o d k L l = absurd o
-exact-at (N ∷ Ns) (r ∷ rs) o d zero L l =
-    let some = distinct-at (N ∷ Ns) d 0 (omega arith) in
-    let later = others N Ns (both (not (eqb 0 N)) (absent N Ns) (both (absent N (0 ∷ Ns)) (distinct Ns) d .0) .1) in
-    Iff·trans (or-says N L some r (first rs))
-    (⊎-elim (λ e. (tt, e)) (λ s. absurd (speaks-numbered N some Ns rs (o .1) later (number-of (s .1)))), λ s. inl (s .1))
-exact-at (N ∷ Ns) (r ∷ rs) o d (suc k) L l =
-    let below : k < length Ns = omega (arith, numbered-length Ns rs (o .1)) in
-    let some = distinct-at Ns (both (absent N (0 ∷ Ns)) (distinct Ns) d .1) k below in
-    let later = others N Ns (both (not (eqb 0 N)) (absent N Ns) (both (absent N (0 ∷ Ns)) (distinct Ns) d .0) .1) in
-    let rest = exact-at Ns rs (o .1) (both (absent N (0 ∷ Ns)) (distinct Ns) d .1) k L (omega arith) in
-    Iff·trans (or-says (getD Ns k 0) L some r (first rs)) (
+said-alone N L some Ns [] o zero a = Iff·symm true-and
+said-alone N L some Ns [] o (suc k) a = Iff·symm true-and
+said-alone N L some [] (r ∷ rs) o k a = absurd o
+said-alone N L some (M ∷ Ms) (r ∷ rs) o zero a = Iff·trans (said-earlier N L some (r ∷ []) Ms rs (o .1) a) (Iff·trans (says-last N L some r) (Iff·symm true-and))
+said-alone N L some (M ∷ Ms) (r ∷ rs) o (suc k) a =
+    let rest = said-alone N L some Ms rs (o .1) k (a .1) in
+    Iff·trans (or-says N L some r (first rs)) (
       ⊎-elim
-          (λ e. absurd (others-at N Ns later k below (sym (number-of e) ∙ o .0 (λ z. some (sym (number-of e) ∙ z)))))
+          (λ e. absurd (a .0 (sym (o .0 (says-some N L some e)) ∙ number-of e)))
           (λ s. let q = rest .0 (s .1) in ((s .0, q .0), q .1)),
       λ s. inr (s .0 .0, rest .1 (s .0 .1, s .1)),
     )
+
+-- a list of checks says the number of its check k, which stands once, at L exactly when the checks before that one are silent and it says so
+pub exact-once : (Ns : List ℕ) (rs : List Refusal) → Numbered Ns rs → (k L : ℕ) → T (once k Ns)
+    → (first rs ≡ refused (getD Ns k 0) L) ↔ (Silents (take k rs) × (getD rs k fine ≡ refused (getD Ns k 0) L))
+exact-once Ns rs o k L h =
+    let a = others (getD Ns k 0) (0 ∷ elsewhere k Ns) h in
+    said-alone (getD Ns k 0) L (λ e. a .0 (sym e)) Ns rs o k (a .1)
+
+-- where no number stands twice, the one at each place stands once
+distinct-once : (Ns : List ℕ) → T (distinct Ns) → (k : ℕ) → k < length Ns → T (once k Ns)
+distinct-once [] d k l = absurd (not-suc-le-zero l)
+distinct-once (N ∷ Ns) d zero l = both (absent N (0 ∷ Ns)) (distinct Ns) d .0
+distinct-once (N ∷ Ns) d (suc k) l =
+    let p = both (absent N (0 ∷ Ns)) (distinct Ns) d in
+    rw (ne-eqb N (getD Ns k 0) (λ e. others-at N Ns (others N (0 ∷ Ns) (p .0) .1) k (omega arith) (sym e))) (distinct-once Ns (p .1) k (omega arith))
+
+-- and so a list in which no number stands twice says the number of each of its checks exactly then
+pub exact-at : (Ns : List ℕ) (rs : List Refusal) → Numbered Ns rs → T (distinct Ns) → (k L : ℕ) → k < length rs
+    → (first rs ≡ refused (getD Ns k 0) L) ↔ (Silents (take k rs) × (getD rs k fine ≡ refused (getD Ns k 0) L))
+exact-at Ns rs o d k L l = exact-once Ns rs o k L (distinct-once Ns d k (omega (arith, numbered-length Ns rs o)))
 
 -- the first of the checks g 0, .. g (n - 1) that speaks says N at L: "lowest", "first such"
 pub record Lowest (g : ℕ → Refusal) (n N L : ℕ) : Type 0 where

@@ -14,7 +14,6 @@
 use mathlib.Core.Path.{_≡_, sym, ap, subst, _∙_}
 use mathlib.Core.List.{List}
 use Prim.Native.Nat.{ℕ, suc, _+_, _≤_, _<_}
-use native.Mathlib.Nat.{le-antisymm}
 use native.Mathlib.Numerals.{add-one}
 use native.Mathlib.Omega.{arith}
 use Rattle.chain.specs.Record.{rowOf}
@@ -216,7 +215,16 @@ module _ {k m : ℕ} {l u : List ℕ} (g : Driving k l m u) where
         let z = f .gives k c (d .state .run) (d .state .shows) (source b d h) in
         record {
           most = omega arith;
-          state = record { run = z .run; shows = z .shows; is = record { trail = trail-then (d .state .is .trail) (z .is .trail); held = z .is .held; calm = z .is .calm; count = z .is .once ∙ ap (λ (n : ℕ). n + 1) (d .state .is .count) } };
+          state = record {
+            run = z .run;
+            shows = z .shows;
+            is = record {
+              trail = trail-then (d .state .is .trail) (z .is .trail);
+              held = z .is .held;
+              calm = z .is .calm;
+              count = z .is .once ∙ ap (λ (n : ℕ). n + 1) (d .state .is .count);
+            };
+          };
         };
   }
 

@@ -1,6 +1,7 @@
 -- What fire and settle ask and give, and the steps of their proofs.
 --   Bounds k c               a chain that may run, and whose counts stay within the limit for k source firings
 --   Held c s                 what holds of every state on the way: firings led to it, and no queue is past its minimum
+--   Trail c s r              firings by the rule lead from s to r; trail-none, -then: none, and one trail after the other
 --   FireAsk k c s i          N_i may fire, no node after it may, and its count is below the end's
 --   FireDone c s i r         r has one firing more of N_i and is calm from N_i on; counts before it are as they were
 --   SettleAsk k c s q        the nodes after queue q's consumer are calm, and its producer's count is not above the end's

@@ -400,7 +400,8 @@ module _ {c : Chain} {u : Run} (f : Filled c u) where
             (λ ne. rw (getD-set-other (worked u (suc j) .done) j k 0 0 ne) (below-else (suc j) k m (λ e. ne (omega arith))))
 
 -- its node may fire where its count can grow and its production fits
-pub finish-may : (c : Chain) (u : Run) (j : ℕ) → j < c .n → Over c u (suc j) → countAt u (suc j) ≢ limit → cramped c (worked u (suc j)) (suc j) ≡ false → May c (withDone (worked u (suc j)) j 0) (suc j)
+pub finish-may : (c : Chain) (u : Run) (j : ℕ) → j < c .n → Over c u (suc j) → countAt u (suc j) ≢ limit → cramped c (worked u (suc j)) (suc j) ≡ false
+    → May c (withDone (worked u (suc j)) j 0) (suc j)
 unfolding worked
 finish-may c u j l o n e = record { node = l; countable = n; over = o; room = finish-room c u j e }
 

@@ -88,4 +88,6 @@ module _ {c : Chain} {u : Run} (r : Running c u) (enough : (j : ℕ) → j < c .
           let l : j < c .n = omega (arith, chosen-low c u, e) in
           by-cases (ℕ-discrete (doneAt u j + 1) (workOf c j))
           (λ all. ap (λ (x : Ticked). x .outcome) (works-ends (running-filled r) j l all) ∙ finish-clean j e)
-          (λ ne. ap (λ (x : Ticked). x .outcome) (works-on (running-filled r) (suc j) (λ m f z. let q : j ≡ m = omega arith in subst (λ (y : ℕ). doneAt u y + 1 < workOf c y) q (omega (arith, ne, r .state j l .1)))))
+          (λ ne.
+          let less : doneAt u j + 1 < workOf c j = omega (arith, ne, r .state j l .1) in
+          ap (λ (x : Ticked). x .outcome) (works-on (running-filled r) (suc j) (λ m f z. let q : j ≡ m = omega arith in subst (λ (y : ℕ). doneAt u y + 1 < workOf c y) q less)))

@@ -246,7 +246,9 @@ module _ {l g o h : List ℕ} {k U i : ℕ} {c : Chain} {x : Ticked} (y : Gone l
         -- a node that the source's step leaves over threshold at the end of the jump is one whose deadline was kept
         keeps-now : k + r < U → (j : ℕ) → j < c .n → (k + r + 1 < U) ⊎ Over c (sourced c then .run) (suc j) → getD o j 0 ≡ datedOf c (suc j) (next (y .now) (suc j))
         keeps-now m j n w = by-cases (ℕ-discrete r 0)
-            (λ z. y .keeps (omega arith) j n (⊎-elim (λ b. inl (omega arith)) (λ b. inr (subst (λ (s : Run). Over c (sourced c s .run) (suc j)) (ap (workedFor (y .now) i) z ∙ for-none (y .now) i) b)) w))
+            (λ z.
+            let still : then ≡ y .now = ap (workedFor (y .now) i) z ∙ for-none (y .now) i in
+            y .keeps (omega arith) j n (⊎-elim (λ b. inl (omega arith)) (λ b. inr (subst (λ (s : Run). Over c (sourced c s .run) (suc j)) still b)) w))
             (λ z. y .keeps (omega arith) j n (inl (omega arith)))
 
 -- as the code of the ticks has it

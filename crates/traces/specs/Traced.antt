@@ -59,7 +59,8 @@ module _ (c : Chain) (s : Run) where
   pub tick-entries-none : (begun c s .outcome ≡ Clean → ⊥) → tickTrace c s ≡ []
   unfolding tickTrace advanced
   tick-entries-none n =
-      ap₂ _++_ (tracing-none (begun c s .outcome) s _ n) (ap (λ (x : Ticked). tracing (x .outcome) (x .run) (finishTrace c)) (goes-no-further (begun c s) _ n) ∙ tracing-none (begun c s .outcome) (begun c s .run) _ n)
+      let last = goes-no-further (begun c s) (λ u. clean (worked u (chosen c u))) n in
+      ap₂ _++_ (tracing-none (begun c s .outcome) s _ n) (ap (λ (x : Ticked). tracing (x .outcome) (x .run) (finishTrace c)) last ∙ tracing-none (begun c s .outcome) (begun c s .run) _ n)
 
   pub tick-entries : begun c s .outcome ≡ Clean
       → tickTrace c s ≡ tracing (begun c s .outcome) s (λ u. sourceEntry c s) ++ finishTrace c (worked (begun c s .run) (chosen c (begun c s .run)))
