@@ -1,5 +1,5 @@
 -- What the public calls promise of firings one after the other, handed on from the crates `events` (the puts and takes of one queue) and
--- `history` (the nodes of a chain that fired, in order).
+-- `history` (the nodes of a chain that fired, in order, with their instants or without).
 pub use Rattle.events.specs.Events.{Event, put, take, owed, Holds}
 unfoldable pub use Rattle.events.specs.Events.{puts, takes, contents, Allowed, Settled}
 pub use Rattle.events.specs.Peak.{room, peak-law, peak-always}

@@ -10,7 +10,8 @@ pub use Rattle.instants.specs.Refusals.{tickNumbers, tick-numbered, tick-accept
 pub use Rattle.instants.specs.Refusals.{deadline-run-9, deadline-run-earlier, deadlineRunNumbers, deadline-run-numbered, deadline-run-accepts}
 pub use Rattle.instants.specs.Refusals.{ranAs, refusedAs, tick-ran, tick-refused, deadline-run-ran, deadline-run-refused}
 pub use Rattle.instants.specs.Runs.{onward-clean, onward-none, onward-then, instants-ticks, ticks-more, clean-or}
-pub use Rattle.instants.specs.Kept.{Filled, Balanced, Running, running-filled, running-balanced, filled-running, TickStep, Countable, tick-step, tick-running, begun-stays, fired-running}
+pub use Rattle.instants.specs.Kept.{TickStep, Countable, tick-step, tick-running, begun-stays}
+pub use Rattle.instants.specs.Filled.{Filled, Balanced, Running, running-filled, running-balanced, filled-running, fired-running}
 pub use Rattle.instants.specs.Lacking.{Within, Past, FirstLacking, lacking-exact, lacking-silent}
 pub use Rattle.instants.specs.Fresh.{fresh-running, fresh-rests, run-is-ticks, Paced, fresh-paced, paced-countable, tick-paced, ticks-paced}
 pub use Rattle.instants.specs.Best.{First, Best, choose-best, best-unique, choose-is, chosen-best, chosen-only, choose-shift, chosen-shift}

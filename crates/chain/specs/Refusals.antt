@@ -11,7 +11,7 @@
 --   numbered-append, -length, -own
 --                            lists in a row; a number for each check; and a check that speaks has its own
 --   absent, distinct         a number stands in no list; no number of a list is 0 or stands twice
---   elsewhere k Ns, once k Ns
+--   elsewhere k Ns, standsOnce k Ns
 --                            the numbers at every place but k; and the one at k is not 0 and is none of them
 --   Others N Ns              N is none of the numbers, of which each is to be shown
 --   number-of, silent-as     equal refusals have equal numbers, and are silent together
@@ -261,8 +261,8 @@ abbrev pub elsewhere : ℕ → List ℕ → List ℕ
 elsewhere k Ns = take k Ns ++ drop (suc k) Ns
 
 -- the number at k is not 0, and stands nowhere else; others may stand twice, as 1 in 1, 2, 1, 3, where 2 and 3 stand once
-abbrev pub once : ℕ → List ℕ → Bool
-once k Ns = absent (getD Ns k 0) (0 ∷ elsewhere k Ns)
+abbrev pub standsOnce : ℕ → List ℕ → Bool
+standsOnce k Ns = absent (getD Ns k 0) (0 ∷ elsewhere k Ns)
 
 -- N is none of the numbers
 abbrev pub Others : ℕ → List ℕ → Type 0
@@ -335,14 +335,14 @@ said-alone N L some (M ∷ Ms) (r ∷ rs) o (suc k) a =
     )
 
 -- a list of checks says the number of its check k, which stands once, at L exactly when the checks before that one are silent and it says so
-pub exact-once : (Ns : List ℕ) (rs : List Refusal) → Numbered Ns rs → (k L : ℕ) → T (once k Ns)
+pub exact-once : (Ns : List ℕ) (rs : List Refusal) → Numbered Ns rs → (k L : ℕ) → T (standsOnce k Ns)
     → (first rs ≡ refused (getD Ns k 0) L) ↔ (Silents (take k rs) × (getD rs k fine ≡ refused (getD Ns k 0) L))
 exact-once Ns rs o k L h =
     let a = others (getD Ns k 0) (0 ∷ elsewhere k Ns) h in
     said-alone (getD Ns k 0) L (λ e. a .0 (sym e)) Ns rs o k (a .1)
 
 -- where no number stands twice, the one at each place stands once
-distinct-once : (Ns : List ℕ) → T (distinct Ns) → (k : ℕ) → k < length Ns → T (once k Ns)
+distinct-once : (Ns : List ℕ) → T (distinct Ns) → (k : ℕ) → k < length Ns → T (standsOnce k Ns)
 distinct-once [] d k l = absurd (not-suc-le-zero l)
 distinct-once (N ∷ Ns) d zero l = both (absent N (0 ∷ Ns)) (distinct Ns) d .0
 distinct-once (N ∷ Ns) d (suc k) l =

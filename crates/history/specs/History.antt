@@ -1,4 +1,4 @@
--- A history: the nodes that fired, in order (01, Firing, and demand 3).
+-- A history: the nodes that fired, in order, with the instants of their firings or without (01, Firing, and demand 3).
 --   Entry, nodes h           an instant and a node, and the nodes of a list of them, in order
 --   times i h                how often N_i stands in h
 --   after c s h              the state that the firings h lead to from s
@@ -29,7 +29,7 @@ use Rattle.state.specs.declared.Run.{Run}
 abbrev pub Entry : Type 0
 Entry = ℕ × ℕ
 
--- the nodes of a trace, in order
+-- the nodes of such a list, in order
 abbrev pub nodes : List Entry → List ℕ
 nodes h = map (λ (e : Entry). e .1) h
 

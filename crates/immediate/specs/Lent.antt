@@ -29,7 +29,7 @@ use Rattle.schedule.specs.Reached.{Reached, Calm, reached-fresh, fresh-calm}
 use Rattle.schedule.specs.Schedule.{schedule, unique, fresh-tight}
 use Rattle.flow.specs.Flow.{thresholdIn, heldIn, sizeIn, firing, Shows, Ready, shows-fired}
 use Rattle.flow.specs.Shown.{shown, shown-is}
-use Rattle.immediate.specs.Steps.{Bounds, Held, Trail, trail-none, trail-then, FireAsk, FireDone, SettleAsk, SettleDone, Settling, fire-word, fire-firing}
+use Rattle.immediate.specs.Steps.{Bounds, Held, Trail, trail-none, trail-then, FireAsk, FireDone, SettleAsk, SettleDone, Settling, fire-word, fire-may}
 use Rattle.immediate.specs.Steps.{fire-settle, fire-done, fire-sink, settle-none, settle-fire, settle-more, settle-less, settle-done}
 
 -- the flow shows a state in which N_i may fire, nearest the sink
@@ -68,7 +68,7 @@ pub record Going (l : List ℕ) (q : ℕ) (m : List ℕ) : Type 0 where
 
 -- the flow that fire is handed shows, after the firing, the state after it
 shown-next : {l : List ℕ} {k : ℕ} {c : Chain} {s : Run} {i : ℕ} → Shows l c s → FireAsk k c s i → Shows (firing l i) c (fired c s i)
-shown-next x a = shows-fired x (a .bounds .accepted .chain) (fire-firing a .may)
+shown-next x a = shows-fired x (a .bounds .accepted .chain) (fire-may a)
 
 -- what fire is handed
 module _ {l : List ℕ} {i : ℕ} (f : Fire l i) where
@@ -78,7 +78,7 @@ module _ {l : List ℕ} {i : ℕ} (f : Fire l i) where
     run = f .run;
     shows = f .shows;
     sound = f .ask .bounds .accepted .chain;
-    may = fire-firing (f .ask) .may;
+    may = fire-may (f .ask);
     word = omega (arith, fire-word (f .ask));
   }
 

@@ -1,14 +1,14 @@
 -- What fire and settle ask and give, and the steps of their proofs.
 --   Bounds k c               a chain that may run, and whose counts stay within the limit for k source firings
 --   Held c s                 what holds of every state on the way: firings led to it, and no queue is past its minimum
---   Trail c s r              firings by the rule lead from s to r; trail-none, -then: none, and one trail after the other
+--   Trail c s r              firings, each by the rule (`Follows`), lead from s to r; trail-none, -then: none, and one trail after the other
 --   FireAsk k c s i          N_i may fire, no node after it may, and its count is below the end's
 --   FireDone c s i r         r has one firing more of N_i and is calm from N_i on; counts before it are as they were
 --   SettleAsk k c s q        the nodes after queue q's consumer are calm, and its producer's count is not above the end's
 --   SettleDone c s q r       r is calm from the queue's producer on; counts up to it are as they were
 --   Settling c s q r         what holds before each firing of the consumer
 --   fire-word                its count is within the limit
---   fire-firing              such a firing is one that manual firing accepts
+--   fire-may                 such a node may fire
 --   fire-settle, -done, -sink, settle-none, -fire, -more, -less, -done
 --                            the steps
 use mathlib.Core.Path.{_≡_, refl, sym, ap, subst, _∙_}
@@ -25,8 +25,7 @@ use Rattle.sizing.specs.Checks.{Enough}
 use Rattle.sizing.specs.Accepted.{Accepted}
 use Rattle.events.specs.Counts.{fires-reach}
 use Rattle.state.specs.State.{countAt, heldAt}
-use Rattle.state.specs.Fired.{fired, Over, count-fired, count-other, held-other}
-use Rattle.state.specs.Fire.{Firing}
+use Rattle.state.specs.Fired.{fired, Over, May, count-fired, count-other, held-other}
 use Rattle.state.specs.declared.Run.{Run}
 use Rattle.history.specs.History.{after, EachFiring, after-append, each-append}
 use Rattle.schedule.specs.Counts.{F, fed, fed-mono}
@@ -116,8 +115,8 @@ module _ {k : ℕ} {c : Chain} {s : Run} {i : ℕ} (a : FireAsk k c s i) where
   next : Next c s i
   next = record { node = a .node; over = a .over; nearest = λ j le l. a .calm j (omega arith) l }
 
-  pub fire-firing : Firing c s i
-  fire-firing = next-firing (a .bounds .accepted) (a .bounds .enough) (a .held .reached) (a .held .tight) next (λ e. omega (arith, fire-word))
+  pub fire-may : May c s i
+  fire-may = next-firing (a .bounds .accepted) (a .bounds .enough) (a .held .reached) (a .held .tight) next (λ e. omega (arith, fire-word)) .may
 
   held-after : Held c (fired c s i)
   held-after = record {

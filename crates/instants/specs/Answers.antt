@@ -26,7 +26,7 @@ use Rattle.instants.specs.Steps.{tickOf, clean, tick, ticks}
 use Rattle.instants.specs.Checks.{longest, tickRefusal, outcomeOf, tickAnswer, deadlineRunAnswer}
 use Rattle.instants.specs.Refusals.{Ticking, ticking-is, ranAs, tick-ran, deadline-run-accepts, deadline-run-ran}
 use Rattle.instants.specs.Runs.{clean-or, onward-goes, onward-stops, ticks-none, ticks-last}
-use Rattle.instants.specs.Kept.{Running}
+use Rattle.instants.specs.Filled.{Running}
 use Rattle.instants.specs.Fresh.{fresh-running, run-is-ticks, Paced, paced-countable, ticks-paced}
 use Rattle.instants.specs.Once.{TickOnce}
 use Rattle.instants.specs.Exactly.{OneTick, TicksTo, is-one, one-overflows, one-lacks, one-leaves, tick-exactly, ticks-exactly}

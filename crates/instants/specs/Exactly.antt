@@ -27,8 +27,9 @@ use Rattle.sizing.specs.Accepted.{Accepted}
 use Rattle.state.specs.State.{freshRun}
 use Rattle.state.specs.declared.Run.{Run}
 use Rattle.instants.specs.Steps.{kindOf, tickOf, atOf, overflowed, undated, clean, onward, chosen, tick, ticks, instants}
-use Rattle.instants.specs.Runs.{ticks-none, ticks-suc}
-use Rattle.instants.specs.Kept.{Running, unclean-overflow, unclean-undated, running-filled, tick-running}
+use Rattle.instants.specs.Runs.{ticks-none, ticks-suc, unclean-overflow, unclean-undated}
+use Rattle.instants.specs.Kept.{tick-running}
+use Rattle.instants.specs.Filled.{Running, running-filled}
 use Rattle.instants.specs.Fresh.{fresh-running, run-is-ticks}
 use Rattle.instants.specs.Lacking.{FirstLacking}
 use Rattle.instants.specs.Spill.{finish-fits}

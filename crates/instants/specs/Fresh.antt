@@ -17,8 +17,9 @@ use Rattle.state.specs.declared.Run.{Run}
 use Rattle.slots.specs.Runs.{Whole}
 use Rattle.instants.specs.Checks.{longest}
 use Rattle.instants.specs.Steps.{clean, onward, finish, finished, ticks, instants, tick}
-use Rattle.instants.specs.Runs.{onward-clean, ticks-none, ticks-last, instants-ticks}
-use Rattle.instants.specs.Kept.{Running, Countable, TickStep, onward-cases, running-filled, tick-step, tick-running, ended-none}
+use Rattle.instants.specs.Runs.{onward-clean, ticks-none, ticks-last, instants-ticks, onward-cases}
+use Rattle.instants.specs.Kept.{Countable, TickStep, tick-step, tick-running, ended-none}
+use Rattle.instants.specs.Filled.{Running, running-filled}
 use Rattle.instants.specs.declared.Outcome.the-variants.{Clean}
 use Rattle.instants.specs.declared.Ticked.{Ticked}
 

@@ -1,17 +1,9 @@
 -- What the steps of a tick keep of a state (01, Firing and Numbers a call may refuse with).
---   Filled c s                 what a step needs: an accepted chain, whole arrays, no queue above its capacity, and work done below e
---   Balanced c s               each queue holds what was put in less what was taken out
---   Running c s                both: an accepted chain, and a state of it that passes 17; running-filled, -balanced, filled-running: which says the same
---   fired-filled, -balanced, -running
---                              a firing of a node that may fire, with room, keeps each of them
---   room-of                    a queue that is not full for N_i has room for it
---   unclean-overflow, -undated no outcome that ends a run is clean
 --   source-cases, finish-cases what holds of each way in which the source's step, and the effect of a firing, end holds of them
 --   sourced-others, -held, -stays
 --                              the source's step changes no other node or queue, and nothing at all where it is not clean
 --   source-may                 the source may fire where there is room
 --   SourceStep c s u           what it leaves where it is clean; sourced-clean: it does; source-running: a state that passes 17 where there was one
---   goes-on, goes-no-further   what follows a clean outcome, and that nothing follows another; onward-cases: what goes on was clean
 --   begun-clean, begun-stays   the source's step and 13 leave what the source's step does where neither ends the tick, and else the state as it was
 --   begun-over, -silent, -undated
 --                              what they leave in each of their three cases
@@ -19,7 +11,6 @@
 --   ended-none, ended-one      which node's work is done
 --   worked-counts, -held, -clock, -other, -same
 --                              what one tick of work leaves
---   filled-as                  what a state with the same counts and contents keeps
 --   works-filled, -unended, -on
 --                              a firing that is not finished: what is kept, that no node's work is done, and that nothing takes effect
 --   works-ended, -ends, cleared-filled, cleared-running, finish-may
@@ -27,8 +18,10 @@
 --   tick-begun, tick-ends, tick-works
 --                              a tick is the source's step and 13, and then, where these are clean, the work of the node chosen and its effect
 --   TickStep c s t             what a clean tick leaves; works-step, tick-step: it does; tick-running: a state that passes 17 where there was one
---   fired-clock                a firing does not move the clock
---   Countable c s              every count can grow
+--   fired-clock, -done         a firing changes neither clock nor work done
+--   finished-clock, finish-others
+--                              the effect of one does not move the clock, and changes no other count
+--   Countable c s              no count is at the limit
 use mathlib.Core.Path.{_≡_, refl, sym, ap, subst, _∙_}
 use mathlib.Core.Logic.{_≢_, by-cases}
 use mathlib.Core.Bool.{Bool, true, false, cond}
@@ -41,106 +34,23 @@ use lib.Dec.{eqb}
 use lib.ListN.{length, getD, length-set}
 use lib.Seq.{getD-set-same, getD-set-other}
 use borrow.Author.Tests.{eqb-true, eq-eqb, le-leb, lt-leb}
-use Rattle.chain.specs.Refusals.{Silent, refused, test}
-use Rattle.chain.specs.Record.{rowOf, workOf}
-use Rattle.chain.specs.Sound.{Sound}
+use Rattle.chain.specs.Refusals.{Silent, refused}
+use Rattle.chain.specs.Record.{workOf}
 use Rattle.chain.specs.declared.Refusal.{Refusal}
 use Rattle.chain.specs.declared.Chain.{Chain}
-use Rattle.sizing.specs.Sizes.{capacityOf}
 use Rattle.sizing.specs.Checks.{limit}
-use Rattle.sizing.specs.Accepted.{Accepted}
 use Rattle.state.specs.State.{countAt, heldAt, doneAt}
-use Rattle.state.specs.Fired.{fired, Over, Room, May, Slots, Balance, over-enough, count-fired, count-other, held-output, held-input, held-other, counts-length, holds-length, balance-kept}
-use Rattle.state.specs.Checks.{over, over-true, cramped, StateSound, room-silent}
+use Rattle.state.specs.Fired.{fired, Over, Room, May, count-fired, count-other, held-other}
+use Rattle.state.specs.Checks.{over, over-true, cramped}
 use Rattle.state.specs.declared.Run.{Run}
-use Rattle.slots.specs.Runs.{Whole}
 use Rattle.instants.specs.Best.{chosen-best}
-use Rattle.instants.specs.Runs.{onward-then}
-use Rattle.instants.specs.Steps.{kindOf, clean, overflowed, undated, onward, goes, divides, sourced, lacking, begun, chosen, worked, endedIn, ended, finish, finished, advanced, tick, withDone}
+use Rattle.instants.specs.Runs.{unclean-overflow, unclean-undated, onward-goes, onward-stops, onward-cases, onward-then}
+use Rattle.instants.specs.Filled.{Filled, Balanced, Running, running-filled, running-balanced, filled-running, fired-filled, fired-balanced}
+use Rattle.instants.specs.Filled.{room-of, balanced-as, filled-as, cramped-as}
+use Rattle.instants.specs.Steps.{clean, overflowed, undated, onward, goes, divides, sourced, lacking, begun, chosen, worked, endedIn, ended, finish, finished, advanced, tick, withDone}
 use Rattle.instants.specs.declared.Outcome.{Outcome}
 use Rattle.instants.specs.declared.Outcome.the-variants.{Clean, Overflowed, NoDeadline}
 use Rattle.instants.specs.declared.Ticked.{Ticked}
-
--- what a step of a tick needs: an accepted chain, whole arrays, no queue above its capacity, and less work done of each node than its execution time
-pub record Filled (c : Chain) (s : Run) : Type 0 where
-  pub chain : Accepted c
-  pub whole : Whole s
-  pub within : (j : ℕ) → j < c .n → heldAt s j ≤ capacityOf (rowOf c j)
-  pub below : (j : ℕ) → j < c .n → doneAt s j < workOf c j
-
--- "each queue holds what its producer's firings put in less what its consumer's took out", of every queue
-abbrev pub Balanced : Chain → Run → Type 0
-Balanced c s = (j : ℕ) → j < c .n → Balance c s j
-
--- an accepted chain, and a state of it that passes 17
-pub record Running (c : Chain) (s : Run) : Type 0 where
-  pub chain : Accepted c
-  pub whole : Whole s
-  pub state : StateSound c s
-
--- which is both
-module _ {c : Chain} {s : Run} where
-  pub running-filled : Running c s → Filled c s
-  running-filled r = record { chain = r .chain; whole = r .whole; within = λ j l. r .state j l .0 .1; below = λ j l. r .state j l .1 }
-
-  pub running-balanced : Running c s → Balanced c s
-  running-balanced r j l = r .state j l .0 .0
-
-  pub filled-running : Filled c s → Balanced c s → Running c s
-  filled-running f b = record { chain = f .chain; whole = f .whole; state = λ j l. ((b j l, f .within j l), f .below j l) }
-
--- a firing of a node
-module _ {c : Chain} {s : Run} (f : Filled c s) (i : ℕ) (o : Over c s i) where
-  sound : Sound c
-  sound = f .chain .chain
-
-  slots : Slots (c .n) s
-  slots = record { counts = omega (arith, f .whole .counts, sound .count .1); held = omega (arith, f .whole .held, sound .count .1) }
-
-  -- it finds what it takes
-  enough : (j : ℕ) → j < c .n → i ≡ suc j → rowOf c j .consume ≤ heldAt s j
-  enough j l e = over-enough sound s j l (subst (Over c s) e o)
-
-  pub fired-balanced : Balanced c s → Balanced c (fired c s i)
-  fired-balanced b j l = balance-kept c s i j slots l (enough j l) (b j l)
-
-  -- with room, it leaves no queue above its capacity
-  module _ (m : Room c s i) where
-    within : (j : ℕ) → j < c .n → heldAt (fired c s i) j ≤ capacityOf (rowOf c j)
-    within j l = by-cases (ℕ-discrete j i)
-        (λ e. rw (e, held-output c s i (omega arith) (omega (arith, f .whole .held, sound .count .1))) (m (omega arith)))
-        (λ ne. by-cases (ℕ-discrete (suc j) i)
-        (λ e. omega (
-          arith,
-          subst (λ (k : ℕ). heldAt (fired c s k) j + rowOf c j .consume ≡ heldAt s j) e
-              (held-input c s j (omega (arith, f .whole .held, sound .count .1)) (enough j l (sym e))),
-          f .within j l,
-        ))
-        (λ ne′. rw (held-other c s i j ne ne′) (f .within j l)))
-
-    pub fired-filled : Filled c (fired c s i)
-    unfolding fired
-    fired-filled = record {
-      chain = f .chain;
-      whole = record { counts = counts-length c s i ∙ f .whole .counts; held = holds-length c s i ∙ f .whole .held; done = f .whole .done };
-      within = within;
-      below = f .below;
-    }
-
--- so a state that passes 17 passes it after the firing
-pub fired-running : {c : Chain} {s : Run} → Running c s → (i : ℕ) → Over c s i → Room c s i → Running c (fired c s i)
-fired-running r i o m = filled-running (fired-filled (running-filled r) i o m) (fired-balanced (running-filled r) i o (running-balanced r))
-
--- a queue that is not full for N_i has room for it
-pub room-of : (c : Chain) (s : Run) (i : ℕ) → cramped c s i ≡ false → Room c s i
-room-of c s i e = room-silent c s i .0 (ap (λ (b : Bool). test 12 i b .number) e)
-
--- no outcome that ends a run is clean
-pub unclean-overflow : {t q : ℕ} → Overflowed t q ≡ Clean → ⊥
-unclean-overflow e = let z : _≡_ {A = ℕ} 1 0 = ap kindOf e in absurd (omega arith)
-
-pub unclean-undated : {t i : ℕ} → NoDeadline t i ≡ Clean → ⊥
-unclean-undated e = let z : _≡_ {A = ℕ} 2 0 = ap kindOf e in absurd (omega arith)
 
 -- the source's step: its production does not fit, or it fires, or it rests
 pub source-cases : (c : Chain) (s : Run) (P : Ticked → Type 0) → (cramped c s 0 ≡ true → P (overflowed s (s .clock) 0))
@@ -209,31 +119,6 @@ module _ {c : Chain} {s : Run} (f : Filled c s) where
 pub source-running : {c : Chain} {s u : Run} → Running c s → SourceStep c s u → Running c u
 source-running r k = filled-running (k .filled) (k .balanced (running-balanced r))
 
--- what follows a clean outcome, and that nothing follows another
-module _ (r : Ticked) (f : Run → Ticked) where
-  pub goes-on : r .outcome ≡ Clean → onward r f ≡ f (r .run)
-  unfolding onward goes
-  goes-on h = ap (λ (o : Outcome). goes o (r .run) f) h
-
-  pub goes-no-further : (r .outcome ≡ Clean → ⊥) → onward r f ≡ r
-  unfolding onward
-  goes-no-further = by (r .outcome) (r .run)
-    where
-      by : (o : Outcome) (u : Run) → (o ≡ Clean → ⊥) → goes o u f ≡ record { outcome = o; run = u }
-      by Clean u n = absurd (n refl)
-      by (Overflowed t q) u n = refl
-      by (NoDeadline t i) u n = refl
-
--- what goes on was clean
-pub onward-cases : (r : Ticked) (f : Run → Ticked) → onward r f .outcome ≡ Clean → (r .outcome ≡ Clean) × ((f (r .run) .outcome ≡ Clean) × (onward r f ≡ f (r .run)))
-unfolding onward
-onward-cases r f = by (r .outcome)
-  where
-    by : (o : Outcome) → goes o (r .run) f .outcome ≡ Clean → (o ≡ Clean) × ((f (r .run) .outcome ≡ Clean) × (goes o (r .run) f ≡ f (r .run)))
-    by Clean h = (refl, (h, refl))
-    by (Overflowed t q) h = absurd (unclean-overflow h)
-    by (NoDeadline t i) h = absurd (unclean-undated h)
-
 -- where neither ends the tick, they leave what the source's step left
 pub begun-clean : (c : Chain) (s : Run) → begun c s .outcome ≡ Clean → (sourced c s .outcome ≡ Clean) × (Silent (lacking c (sourced c s .run)) × (begun c s ≡ clean (sourced c s .run)))
 unfolding begun
@@ -255,12 +140,12 @@ begun-clean c s h =
 module _ (c : Chain) (s : Run) where
   pub begun-over : (sourced c s .outcome ≡ Clean → ⊥) → begun c s ≡ sourced c s
   unfolding begun
-  begun-over n = goes-no-further (sourced c s) _ n
+  begun-over n = onward-stops (sourced c s) _ n
 
   module _ (h : sourced c s .outcome ≡ Clean) where
     dated-after : begun c s ≡ cond (eqb (lacking c (sourced c s .run) .number) 0) (clean (sourced c s .run)) (undated s (s .clock) (lacking c (sourced c s .run) .place))
     unfolding begun
-    dated-after = goes-on (sourced c s) _ h
+    dated-after = onward-goes (sourced c s) _ h
 
     pub begun-silent : Silent (lacking c (sourced c s .run)) → begun c s ≡ clean (sourced c s .run)
     begun-silent z = dated-after ∙ simp (eq-eqb _ _ z)
@@ -335,30 +220,13 @@ module _ (s : Run) where
   worked-deep zero = refl
   worked-deep (suc j) = length-set (s .done) j (doneAt s j + 1)
 
--- what a state with the same counts and contents keeps
-at : {a b : List ℕ} → a ≡ b → (j : ℕ) → getD a j 0 ≡ getD b j 0
-at e j = ap (λ (x : List ℕ). getD x j 0) e
-
-module _ (c : Chain) (u w : Run) (counts : w .counts ≡ u .counts) (held : w .held ≡ u .held) where
-  balanced-as : Balanced c u → Balanced c w
-  balanced-as b j l = rw (at counts j, at counts (suc j), at held j) (b j l)
-
-  pub filled-as : Filled c u → length (w .done) ≡ length (u .done) → ((j : ℕ) → j < c .n → doneAt w j < workOf c j) → Filled c w
-  filled-as f deep below = record {
-    chain = f .chain;
-    whole = record { counts = ap length counts ∙ f .whole .counts; held = ap length held ∙ f .whole .held; done = deep ∙ f .whole .done };
-    within = λ j l. rw (at held j) (f .within j l);
-    below = below;
-  }
-
 -- what a firing takes was there when its node was chosen, and its production fits where it did after the work
 finish-over : (c : Chain) (u : Run) (j : ℕ) → Over c u (suc j) → Over c (withDone (worked u (suc j)) j 0) (suc j)
 unfolding worked
 finish-over c u j o = o
 
 finish-room : (c : Chain) (u : Run) (j : ℕ) → cramped c (worked u (suc j)) (suc j) ≡ false → Room c (withDone (worked u (suc j)) j 0) (suc j)
-unfolding cramped worked
-finish-room c u j e = room-of c (withDone (worked u (suc j)) j 0) (suc j) e
+finish-room c u j e = room-of c (withDone (worked u (suc j)) j 0) (suc j) (cramped-as c (worked u (suc j)) (withDone (worked u (suc j)) j 0) (suc j) refl ∙ e)
 
 module _ {c : Chain} {u : Run} (f : Filled c u) where
   below-else : (i j : ℕ) → j < c .n → i ≢ suc j → doneAt (worked u i) j < workOf c j
@@ -420,10 +288,10 @@ tick-begun c s = onward-then (begun c s) (λ u. clean (worked u (chosen c u))) (
 -- a tick that ends with the outcome of the source's step or of 13, and one that goes on
 module _ (c : Chain) (s : Run) where
   pub tick-ends : (begun c s .outcome ≡ Clean → ⊥) → tick c s ≡ begun c s
-  tick-ends n = tick-begun c s ∙ goes-no-further (begun c s) _ n
+  tick-ends n = tick-begun c s ∙ onward-stops (begun c s) _ n
 
   pub tick-works : begun c s .outcome ≡ Clean → tick c s ≡ finished c (worked (begun c s .run) (chosen c (begun c s .run)))
-  tick-works e = tick-begun c s ∙ goes-on (begun c s) _ e
+  tick-works e = tick-begun c s ∙ onward-goes (begun c s) _ e
 
 -- what a tick leaves where it is clean, one tick later, no node having fired more than once
 pub record TickStep (c : Chain) (s t : Run) : Type 0 where
@@ -433,11 +301,32 @@ pub record TickStep (c : Chain) (s t : Run) : Type 0 where
   pub counts : (i : ℕ) → i ≤ c .n → countAt t i ≤ suc (countAt s i)
 
 -- a firing changes neither clock nor work done
-pub fired-clock : (c : Chain) (s : Run) (i : ℕ) → fired c s i .clock ≡ s .clock
-unfolding fired
-fired-clock c s i = refl
+module _ (c : Chain) (s : Run) (i : ℕ) where
+  pub fired-clock : fired c s i .clock ≡ s .clock
+  unfolding fired
+  fired-clock = refl
 
--- every count of a node can grow
+  pub fired-done : fired c s i .done ≡ s .done
+  unfolding fired
+  fired-done = refl
+
+-- its effect does not move the clock either, and changes the count of its node alone
+module _ (c : Chain) (w : Run) where
+  finish-clock : (i : ℕ) → finish c w i .run .clock ≡ w .clock
+  unfolding finish
+  finish-clock zero = refl
+  finish-clock (suc j) = finish-cases c w j (λ x. x .run .clock ≡ w .clock) (λ e. refl) (λ e. fired-clock c (withDone w j 0) (suc j))
+
+  pub finished-clock : finished c w .run .clock ≡ w .clock
+  unfolding finished
+  finished-clock = finish-clock (ended c w)
+
+  pub finish-others : (i k : ℕ) → k ≢ i → countAt (finish c w i .run) k ≡ countAt w k
+  unfolding finish
+  finish-others zero k n = refl
+  finish-others (suc j) k n = finish-cases c w j (λ x. countAt (x .run) k ≡ countAt w k) (λ e. refl) (λ e. count-other c (withDone w j 0) (suc j) k n)
+
+-- no count of a node is at the limit
 abbrev pub Countable : Chain → Run → Type 0
 Countable c s = (i : ℕ) → i ≤ c .n → countAt s i ≢ limit
 

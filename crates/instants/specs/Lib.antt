@@ -5,6 +5,7 @@ pub mod Refusals
 pub mod Lacking
 pub mod Best
 pub mod Runs
+pub mod Filled
 pub mod Kept
 pub mod Fresh
 pub mod Spill

@@ -22,15 +22,17 @@ use Rattle.state.specs.State.{countAt, heldAt, doneAt, same-run}
 use Rattle.state.specs.Fired.{fired, Over, over-enough, count-fired, count-other, held-output, held-input, held-other, held-sink}
 use Rattle.state.specs.Checks.{over, over-true}
 use Rattle.state.specs.declared.Run.{Run}
-use Rattle.slots.specs.Runs.{Whole}
+use Rattle.slots.specs.Runs.{Whole, fired-whole}
 use Rattle.deadline.specs.Deadline.{deadline}
 use Rattle.instants.specs.Best.{Best, chosen-best, chosen-only}
 use Rattle.instants.specs.Steps.{chosen, withDone, next, worked, finish, finished}
-use Rattle.instants.specs.Kept.{Filled, finish-cases, worked-counts, worked-held, worked-clock, worked-other}
-use Rattle.instants.specs.Kept.{worked-same, works-on, works-filled, works-ends, cleared-filled, unclean-overflow}
+use Rattle.instants.specs.Kept.{finish-cases, worked-counts, worked-held, worked-clock, worked-other}
+use Rattle.instants.specs.Filled.{Filled}
+use Rattle.instants.specs.Runs.{unclean-overflow}
+use Rattle.instants.specs.Kept.{worked-same, works-on, works-filled, works-ends, cleared-filled}
 use Rattle.instants.specs.declared.Outcome.the-variants.{Clean}
 use Rattle.instants.specs.declared.Ticked.{Ticked}
-use Rattle.instants.specs.Source.{Due, Fits, SourceOnce, fired-whole}
+use Rattle.instants.specs.Source.{Due, Fits, SourceOnce}
 use Rattle.instants.specs.Outcomes.{Dated}
 
 -- "the over-threshold node whose next firing has the earliest deadline, ties to the one nearest the sink"; 0 where no node but the source is over threshold

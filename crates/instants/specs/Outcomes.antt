@@ -16,7 +16,8 @@ use Rattle.state.specs.Checks.{over}
 use Rattle.state.specs.declared.Run.{Run}
 use Rattle.deadline.specs.Deadline.{indexCheck}
 use Rattle.instants.specs.Steps.{clean, overflowed, undated, onward, next, lackingTest, lacking, begun, chosen, worked, finished, tick}
-use Rattle.instants.specs.Kept.{Running, running-filled, fired-running, tick-begun}
+use Rattle.instants.specs.Kept.{tick-begun}
+use Rattle.instants.specs.Filled.{Running, running-filled, fired-running}
 use Rattle.instants.specs.Lacking.{Within, FirstLacking, within-is, lacking-exact, lacking-silent}
 use Rattle.instants.specs.declared.Ticked.{Ticked}
 use Rattle.instants.specs.Source.{Due, Full, Fits, source-three, SourceOnce, once-fires, once-rests}

@@ -1,68 +1,41 @@
 -- Ticks in which nothing but one node's work goes on (01, Firing): so many of them are one step.
---   lacking-as, chosen-as      13 and the choice look at counts and contents alone
---   workedFor s i k            s after k ticks of work of N_i that finish no firing; of no node where i is 0
---   for-counts, -held, -clock, -none
---                              it has the counts and contents of s, its clock is k later, and where k is 0 it is s
+--   workedIn e i k             the work done e after k ticks of work of N_i; of no node where i is 0
+--   worked-done                which one tick of work leaves
+--   workedFor s i k            s after k ticks of work of N_i that finish no firing; for-none: it is s where k is 0
 --   quiet-tick                 one tick in which the source is not due and no firing is finished
 --   quiet, quiet-filled        k ticks in which the source is never due and N_i does not come to the end of its work, and what they keep
 --   quiet-run                  so a run jumps over them
 --   rests-until                the source is not due from a clock that y does not divide to the next that it does
 use mathlib.Core.Path.{_≡_, refl, sym, ap, subst, _∙_}
 use mathlib.Core.List.{List}
-use mathlib.Core.Logic.{_≢_, by-cases}
+use mathlib.Core.Logic.{by-cases}
 use Prim.Native.Nat.{ℕ, zero, suc, _+_, _/_, _%_, _≤_, _<_, _∣_}
 use native.Mathlib.Nat.{add-zero, div-add-mod, mod-eq-of-lt, mod-eq-zero-of-dvd}
 use native.Mathlib.Decide.{ℕ-discrete}
 use native.Mathlib.Omega.{arith}
-use lib.Dec.{leb}
 use lib.ListN.{length, getD, set, length-set}
 use lib.Seq.{getD-set-same, getD-set-other, set-getD, set-set}
 use Rattle.arith.specs.Division.{rest-of-sum}
 use Rattle.chain.specs.Refusals.{Silent}
-use Rattle.chain.specs.Record.{rowOf, workOf}
+use Rattle.chain.specs.Record.{workOf}
 use Rattle.chain.specs.declared.Chain.{Chain}
 use Rattle.state.specs.State.{doneAt}
-use Rattle.state.specs.Checks.{over}
 use Rattle.state.specs.declared.Run.{Run}
-use Rattle.deadline.specs.Deadline.{deadline}
-use Rattle.instants.specs.Steps.{clean, onward, withClock, withDone, sourced, lacking, choose, chosen, worked, finished, begun, tick, ticks}
+use Rattle.instants.specs.Steps.{clean, onward, sourced, lacking, chosen, worked, finished, begun, tick, ticks}
 use Rattle.instants.specs.Runs.{onward-clean, ticks-none, ticks-suc, ticks-more}
-use Rattle.instants.specs.Kept.{Filled, filled-as, begun-silent, chosen-low, tick-works, worked-counts, worked-held, worked-clock, worked-same, works-on, works-filled}
+use Rattle.instants.specs.Kept.{begun-silent, chosen-low, tick-works, worked-counts, worked-held, worked-clock, worked-same, works-on, works-filled}
+use Rattle.instants.specs.Filled.{Filled, filled-as, lacking-as, chosen-as}
 use Rattle.instants.specs.Source.{Due, source-rests}
 use Rattle.instants.specs.declared.Ticked.{Ticked}
 
--- 13 and the choice look at counts and contents alone
-module _ (c : Chain) (s t : Run) where
-  pub lacking-as : t .counts ≡ s .counts → t .held ≡ s .held → lacking c t ≡ lacking c s
-  unfolding lacking
-  lacking-as a h = λ i. lacking c (record { clock = s .clock; counts = a i; held = h i; done = s .done })
-
-  over-as : t .held ≡ s .held → (i : ℕ) → over c t i ≡ over c s i
-  over-as h zero = refl
-  over-as h (suc j) = ap (λ (y : List ℕ). leb (rowOf c j .threshold) (getD y j 0)) h
-
-  pub chosen-as : t .counts ≡ s .counts → t .held ≡ s .held → chosen c t ≡ chosen c s
-  unfolding chosen
-  chosen-as a h = λ z. choose (λ i. deadline c i (suc (getD (a z) i 0))) (λ i. over-as h i z) (c .n)
+-- the work done after k ticks of work of N_i
+unfoldable pub workedIn : List ℕ → ℕ → ℕ → List ℕ
+workedIn e zero k = e
+workedIn e (suc j) k = set e j (getD e j 0 + k)
 
 -- s after k ticks of work of N_i, none of which finishes a firing; i is 0 where no node works
 abbrev pub workedFor : Run → ℕ → ℕ → Run
-workedFor s zero k = withClock s (s .clock + k)
-workedFor s (suc j) k = withDone (withClock s (s .clock + k)) j (doneAt s j + k)
-
--- it has the counts and contents of s, and its clock is k later
-module _ (s : Run) (k : ℕ) where
-  pub for-counts : (i : ℕ) → workedFor s i k .counts ≡ s .counts
-  for-counts zero = refl
-  for-counts (suc j) = refl
-
-  pub for-held : (i : ℕ) → workedFor s i k .held ≡ s .held
-  for-held zero = refl
-  for-held (suc j) = refl
-
-  pub for-clock : (i : ℕ) → workedFor s i k .clock ≡ s .clock + k
-  for-clock zero = refl
-  for-clock (suc j) = refl
+workedFor s i k = record { clock = s .clock + k; counts = s .counts; held = s .held; done = workedIn (s .done) i k }
 
 -- N_i is the node that works, each node over threshold having a deadline; the source is not due, and the work of N_i goes on
 pub quiet-tick : {c : Chain} {s : Run} → Filled c s → Silent (lacking c s) → (i : ℕ) → chosen c s ≡ i → (Due c s → ⊥)
@@ -81,27 +54,31 @@ quiet-tick {c} {s} f silent i works rests less =
         begun-silent c s (ap (λ (x : Ticked). x .outcome) (sym still)) (subst (λ (x : Ticked). Silent (lacking c (x .run))) still silent)
         ∙ ap (λ (x : Ticked). clean (x .run)) (sym still)
 
+-- one tick of work, as the definition of a tick has it
+pub worked-done : (s : Run) (i : ℕ) → worked s i .done ≡ workedIn (s .done) i 1
+unfolding worked workedIn
+worked-done s zero = refl
+worked-done s (suc j) = refl
+
 -- no tick of work, and one tick of work and then k
+in-none : (e : List ℕ) (i : ℕ) → workedIn e i 0 ≡ e
+unfolding workedIn
+in-none e zero = refl
+in-none e (suc j) = ap (set e j) (add-zero (getD e j 0)) ∙ set-getD e j 0
+
 pub for-none : (s : Run) (i : ℕ) → workedFor s i 0 ≡ s
-for-none s zero = ap (withClock s) (add-zero (s .clock))
-for-none s (suc j) = λ k. record { clock = add-zero (s .clock) k; counts = s .counts; held = s .held; done = kept k }
-  where
-    kept : set (s .done) j (doneAt s j + 0) ≡ s .done
-    kept = ap (set (s .done) j) (add-zero (doneAt s j)) ∙ set-getD (s .done) j 0
+for-none s i = λ k. record { clock = add-zero (s .clock) k; counts = s .counts; held = s .held; done = in-none (s .done) i k }
+
+in-more : (e : List ℕ) (i k : ℕ) → ((j : ℕ) → i ≡ suc j → j < length e) → workedIn (workedIn e i 1) i k ≡ workedIn e i (suc k)
+unfolding workedIn
+in-more e zero k l = refl
+in-more e (suc j) k l = set-set e j (getD e j 0 + 1) _ ∙ ap (set e j) (omega (arith, getD-set-same e j (getD e j 0 + 1) 0 (l j refl)))
 
 for-more : (s : Run) (i k : ℕ) → ((j : ℕ) → i ≡ suc j → j < length (s .done)) → workedFor (worked s i) i k ≡ workedFor s i (suc k)
-unfolding worked
-for-more s zero k l = ap (withClock s) (omega arith)
-for-more s (suc j) k l = λ m. record { clock = time m; counts = s .counts; held = s .held; done = twice m }
+for-more s i k l = λ m. record { clock = time m; counts = worked-counts s i m; held = worked-held s i m; done = (ap (λ (e : List ℕ). workedIn e i k) (worked-done s i) ∙ in-more (s .done) i k l) m }
   where
-    time : s .clock + 1 + k ≡ s .clock + suc k
-    time = omega arith
-
-    sum : getD (set (s .done) j (doneAt s j + 1)) j 0 + k ≡ doneAt s j + suc k
-    sum = omega (arith, getD-set-same (s .done) j (doneAt s j + 1) 0 (l j refl))
-
-    twice : set (set (s .done) j (doneAt s j + 1)) j (getD (set (s .done) j (doneAt s j + 1)) j 0 + k) ≡ set (s .done) j (doneAt s j + suc k)
-    twice = set-set (s .done) j (doneAt s j + 1) _ ∙ ap (set (s .done) j) sum
+    time : worked s i .clock + k ≡ s .clock + suc k
+    time = omega (arith, worked-clock s i)
 
 -- k ticks in which the source is never due, no firing is finished, and N_i is the node that works: the clock is k later, its work k more, all else as it was
 pub quiet : {c : Chain} (k : ℕ) {s : Run} → Filled c s → Silent (lacking c s) → (i : ℕ) → chosen c s ≡ i → ((m : ℕ) → m < k → c .period ∣ (s .clock + m) → ⊥)
@@ -136,8 +113,9 @@ pub quiet-run : {c : Chain} (k T : ℕ) {s : Run} → Filled c s → Silent (lac
 quiet-run {c} k T {s} f z i w rests less =
     ticks-more c k T s ∙ ap (λ (x : Ticked). onward x (ticks c T)) (quiet k f z i w rests less) ∙ onward-clean (workedFor s i k) (ticks c T)
 
--- whose work is still below e
+-- and the state after them is filled
 pub quiet-filled : {c : Chain} {s : Run} (k : ℕ) → Filled c s → (i : ℕ) → ((j : ℕ) → i ≡ suc j → doneAt s j + k < workOf c j) → Filled c (workedFor s i k)
+unfolding workedIn
 quiet-filled {c} {s} k f zero less = filled-as c s (workedFor s 0 k) refl refl f refl (f .below)
 quiet-filled {c} {s} k f (suc j) less = filled-as c s (workedFor s (suc j) k) refl refl f (length-set (s .done) j _) below
   where

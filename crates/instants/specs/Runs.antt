@@ -43,11 +43,18 @@ onward-none r = by (r .outcome) (r .run)
     by (Overflowed t q) s = refl
     by (NoDeadline t i) s = refl
 
+-- no outcome that ends a run is clean
+pub unclean-overflow : {t q : ℕ} → Overflowed t q ≡ Clean → ⊥
+unclean-overflow e = let z : _≡_ {A = ℕ} 1 0 = ap kindOf e in absurd (omega arith)
+
+pub unclean-undated : {t i : ℕ} → NoDeadline t i ≡ Clean → ⊥
+unclean-undated e = let z : _≡_ {A = ℕ} 2 0 = ap kindOf e in absurd (omega arith)
+
 -- an outcome is clean, or it is not
 pub clean-or : (o : Outcome) → (o ≡ Clean) ⊎ (o ≡ Clean → ⊥)
 clean-or Clean = inl refl
-clean-or (Overflowed t q) = inr (λ e. let z : _≡_ {A = ℕ} 1 0 = ap kindOf e in absurd (omega arith))
-clean-or (NoDeadline t i) = inr (λ e. let z : _≡_ {A = ℕ} 2 0 = ap kindOf e in absurd (omega arith))
+clean-or (Overflowed t q) = inr unclean-overflow
+clean-or (NoDeadline t i) = inr unclean-undated
 
 -- what was left clean goes on
 pub onward-goes : (r : Ticked) (f : Run → Ticked) → r .outcome ≡ Clean → onward r f ≡ f (r .run)
@@ -62,6 +69,16 @@ onward-stops r f = by (r .outcome) (r .run)
     by Clean s n = absurd (n refl)
     by (Overflowed t q) s n = refl
     by (NoDeadline t i) s n = refl
+
+-- what goes on was clean
+pub onward-cases : (r : Ticked) (f : Run → Ticked) → onward r f .outcome ≡ Clean → (r .outcome ≡ Clean) × ((f (r .run) .outcome ≡ Clean) × (onward r f ≡ f (r .run)))
+unfolding onward
+onward-cases r f = by (r .outcome)
+  where
+    by : (o : Outcome) → goes o (r .run) f .outcome ≡ Clean → (o ≡ Clean) × ((f (r .run) .outcome ≡ Clean) × (goes o (r .run) f ≡ f (r .run)))
+    by Clean h = (refl, (h, refl))
+    by (Overflowed t q) h = absurd (unclean-overflow h)
+    by (NoDeadline t i) h = absurd (unclean-undated h)
 
 module _ (c : Chain) where
   pub ticks-none : (s : Run) → ticks c 0 s ≡ clean s

@@ -6,7 +6,6 @@
 --   source-spills, -fires, -rests
 --                              it overflows exactly when it is due and does not fit, fires exactly when it is due and fits, and else rests
 --   SourceOnce c s u           u is s after the source's step, field by field
---   fired-whole                a firing keeps the number of slots
 --   once-fires, once-rests     a firing of the source that is due is that, and no change where it is not due
 --   source-only                and nothing else is
 use mathlib.Core.Path.{_≡_, refl, sym, ap, _∙_}
@@ -21,12 +20,13 @@ use Rattle.chain.specs.Record.{rowOf}
 use Rattle.chain.specs.declared.Chain.{Chain}
 use Rattle.sizing.specs.Sizes.{capacityOf}
 use Rattle.state.specs.State.{countAt, heldAt, same-run}
-use Rattle.state.specs.Fired.{fired, count-fired, count-other, held-output, held-other, counts-length, holds-length}
+use Rattle.state.specs.Fired.{fired, count-fired, count-other, held-output, held-other}
 use Rattle.state.specs.Checks.{cramped}
 use Rattle.state.specs.declared.Run.{Run}
-use Rattle.slots.specs.Runs.{Whole}
+use Rattle.slots.specs.Runs.{Whole, fired-whole}
 use Rattle.instants.specs.Steps.{clean, overflowed, divides, sourced}
-use Rattle.instants.specs.Kept.{Filled, room-of, unclean-overflow}
+use Rattle.instants.specs.Filled.{Filled, room-of}
+use Rattle.instants.specs.Runs.{unclean-overflow}
 use Rattle.instants.specs.declared.Ticked.{Ticked}
 
 -- "if y divides t"
@@ -97,11 +97,6 @@ pub record SourceOnce (c : Chain) (s u : Run) : Type 0 where
   pub rests : (Due c s → ⊥) → (countAt u 0 ≡ countAt s 0) × (heldAt u 0 ≡ heldAt s 0)
   pub counts : (m : ℕ) → m ≢ 0 → countAt u m ≡ countAt s m
   pub held : (j : ℕ) → j ≢ 0 → heldAt u j ≡ heldAt s j
-
--- a firing keeps the number of slots
-pub fired-whole : (c : Chain) (s : Run) (i : ℕ) → Whole s → Whole (fired c s i)
-unfolding fired
-fired-whole c s i w = record { counts = counts-length c s i ∙ w .counts; held = holds-length c s i ∙ w .held; done = w .done }
 
 module _ {c : Chain} {s : Run} (f : Filled c s) where
   pub once-fires : Due c s → SourceOnce c s (fired c s 0)

@@ -6,12 +6,10 @@
 use mathlib.Core.Path.{_≡_, refl, sym, ap, subst, _∙_}
 use mathlib.Core.Bool.{Bool, false, cond}
 use mathlib.Core.Logic.{by-cases}
-use mathlib.Core.List.{List}
 use Prim.Native.Nat.{ℕ, zero, suc, _+_, _-_, _*_, _≤_, _<_}
 use native.Mathlib.Nat.{le-refl, le-trans, zero-lt-suc, div-lt-iff-lt-mul}
 use native.Mathlib.Decide.{ℕ-discrete, decLt, decLe}
 use native.Mathlib.Omega.{arith}
-use lib.ListN.{getD}
 use Rattle.words.specs.declared.Queue.{Queue}
 use Rattle.chain.specs.Refusals.{test-silent}
 use Rattle.chain.specs.Record.{rowOf, workOf}
@@ -27,9 +25,9 @@ use Rattle.state.specs.Checks.{over-true, cramped, StateSound, room-silent}
 use Rattle.state.specs.declared.Run.{Run}
 use Rattle.deadline.specs.Deadline.{earlier, deadline, deadline-mono}
 use Rattle.instants.specs.Best.{chosen-best}
-use Rattle.instants.specs.Kept.{finish-cases, Running, running-filled, chosen-low, worked-held, works-on, works-ends}
+use Rattle.instants.specs.Kept.{finish-cases, chosen-low, worked-held, works-on, works-ends}
+use Rattle.instants.specs.Filled.{Running, running-filled, cramped-as}
 use Rattle.instants.specs.Steps.{next, chosen, worked, finish, finished}
-use Rattle.instants.specs.declared.Outcome.{Outcome}
 use Rattle.instants.specs.declared.Outcome.the-variants.{Clean}
 use Rattle.instants.specs.declared.Ticked.{Ticked}
 
@@ -63,11 +61,9 @@ room-after-choice {c} u a enough k some l =
     room-before u (chosen c u) (a .chain) l (enough (chosen c u) l) (k (chosen c u) l .0 .0)
     (λ o. chosen-best c u .first (suc (chosen c u)) (zero-lt-suc _) l (over-true c u (suc (chosen c u)) .1 o) .tie (le-refl _))
 
--- whether a production fits is not changed by work
+-- and a production that has it is not too large after the work
 cramped-worked : (c : Chain) (u : Run) (i : ℕ) → Room c u i → cramped c (worked u i) i ≡ false
-cramped-worked c u i r =
-    let now : Room c (worked u i) i = λ l. subst (λ (h : List ℕ). getD h i 0 + rowOf c i .produce ≤ capacityOf (rowOf c i)) (sym (worked-held u i)) (r l) in
-    test-silent 12 i (λ e. omega arith) (cramped c (worked u i) i) .0 (room-silent c (worked u i) i .1 now)
+cramped-worked c u i r = cramped-as c u (worked u i) i (worked-held u i) ∙ test-silent 12 i (λ e. omega arith) (cramped c u i) .0 (room-silent c u i .1 r)
 
 -- what a tick of work finishes is clean
 module _ {c : Chain} {u : Run} (r : Running c u) (enough : (j : ℕ) → j < c .n → Enough c j) where

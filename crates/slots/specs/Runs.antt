@@ -8,7 +8,8 @@
 --   fire-alike               which refuse a firing alike
 --   past-n                   and give states that differ in slots past n only
 --   past-kept                each of which has its own slots past n as they were
---   whole-kept, fresh-whole  a firing keeps the number of slots, and a fresh start has it
+--   fired-whole, whole-kept, fresh-whole
+--                            a firing keeps the number of slots, and so does its answer; a fresh start has it
 use mathlib.Core.Path.{_≡_, refl, sym, ap, ap₂, _∙_}
 use mathlib.Core.Bool.{Bool, true, false, cond, not, _||_, _&&_}
 use mathlib.Core.Logic.{by-cases}
@@ -182,9 +183,12 @@ past-kept c s i = given-back (λ t. KeptPast (c .n) s t) c s i (record { counts 
     }
 
 -- a firing keeps the number of slots
-pub whole-kept : (c : Chain) (s : Run) (i : ℕ) → Whole s → Whole (fireAnswer c s i .run)
+pub fired-whole : (c : Chain) (s : Run) (i : ℕ) → Whole s → Whole (fired c s i)
 unfolding fired
-whole-kept c s i w = given-back Whole c s i w (λ f. record { counts = counts-length c s i ∙ w .counts; held = holds-length c s i ∙ w .held; done = w .done })
+fired-whole c s i w = record { counts = counts-length c s i ∙ w .counts; held = holds-length c s i ∙ w .held; done = w .done }
+
+pub whole-kept : (c : Chain) (s : Run) (i : ℕ) → Whole s → Whole (fireAnswer c s i .run)
+whole-kept c s i w = given-back Whole c s i w (λ f. fired-whole c s i w)
 
 -- and a fresh start has it
 pub fresh-whole : (c : Chain) → Whole (freshAnswer c .run)

@@ -10,7 +10,7 @@
 --   fire-17, fire-9, fire-11, fire-12
 --                              when a firing is refused with each number of its own
 --   fire-accepts               it is not refused exactly when the chain is accepted, the state passes 17 and the firing may be
---   Firing c s i, firing-is    the same as a record, which the code of every firing asks
+--   Firing c s i, firing-is    the same as a record, which the code of a manual firing asks
 --   fire-accepted, fire-refused
 --                              the state that it gives back
 use mathlib.Core.Path.{_≡_, refl, sym}
@@ -67,7 +67,7 @@ unfoldable pub fireAnswer : Chain → Run → ℕ → RunAnswer
 unfolding fireRefusal answered fired
 fireAnswer c s i = answered (fireRefusal c s i) s (fired c s i)
 
--- what the code of every firing asks: manual firing accepts it (firing-is)
+-- what the code of a manual firing asks: it is accepted (firing-is)
 pub record Firing (c : Chain) (s : Run) (i : ℕ) : Type 0 where
   pub chain : Accepted c
   pub state : StateSound c s

@@ -4,55 +4,33 @@
 --   begun-lacks              a deadline cannot be had: what the source put in is taken back
 --   begun-chooses            the node that works is chosen anew
 --   begun-size               the number of queues after the source's step
---   as-clean, as-unclean     the code 0 is clean, and no other is
---   not-true, not-false      what code tests of the contrary
 use mathlib.Core.Path.{_≡_, refl, sym, ap, subst, _∙_}
 use mathlib.Core.Logic.{_≢_, by-cases}
-use mathlib.Core.Bool.{Bool, true, false, cond, not}
+use mathlib.Core.Bool.{Bool, true, false, not}
 use mathlib.Core.List.{List}
 use Prim.Native.Nat.{ℕ, _+_, _≤_, _<_}
 use native.Mathlib.Decide.{ℕ-discrete}
 use native.Mathlib.Omega.{arith}
-use lib.Dec.{eqb}
 use lib.ListN.{getD, set, length-set}
 use lib.Seq.{getD-set-same, getD-set-other}
-use borrow.Author.Tests.{eq-eqb, ne-eqb}
+use borrow.Author.Tests.{ne-eqb, not-true}
 use Rattle.chain.specs.Refusals.{refused, Silent, number-of}
 use Rattle.chain.specs.declared.Chain.{Chain}
 use Rattle.state.specs.declared.Run.{Run}
 use Rattle.flow.specs.Flow.{countIn, heldIn, Shows}
 use Rattle.instants.specs.Lacking.{lacking-exact}
 use Rattle.instants.specs.Steps.{sourced, lacking, chosen, begun}
-use Rattle.instants.specs.Kept.{sourced-held, SourceStep, sourced-clean, begun-over, begun-silent, begun-undated, chosen-low, unclean-overflow, unclean-undated}
+use Rattle.instants.specs.Kept.{sourced-held, SourceStep, sourced-clean, begun-over, begun-silent, begun-undated, chosen-low}
 use Rattle.instants.specs.declared.Outcome.{Outcome}
-use Rattle.instants.specs.declared.Outcome.the-variants.{Clean, Overflowed, NoDeadline}
+use Rattle.instants.specs.declared.Outcome.the-variants.{Clean, NoDeadline}
 use Rattle.instants.specs.declared.Ticked.{Ticked}
 use Rattle.traces.specs.Trace.{tracing, sourceEntry}
 use Rattle.traces.specs.Traced.{tracing-none}
 use Rattle.steps.specs.Lent.{firedAt, outcomeAs, Stands, Sources, SourcedTo, SourcedGives, Keeps, Looks, lackOf, LackingGives, ChosenGives}
+use Rattle.steps.specs.Laws.{as-clean, as-unclean}
 use Rattle.steps.specs.Passed.{BegunTo, BegunGives}
 use Rattle.steps.specs.declared.Step.{Step}
 use Rattle.steps.specs.declared.Start.{Start}
-
--- the code 0 is clean, and no other is
-pub as-clean : (k t i : ℕ) → k ≡ 0 → outcomeAs k t i ≡ Clean
-as-clean k t i e = simp (eq-eqb k 0 e)
-
-pub as-unclean : (k t i : ℕ) → k ≢ 0 → outcomeAs k t i ≡ Clean → ⊥
-as-unclean k t i n = by (eqb k 1) (ne-eqb k 0 n)
-  where
-    by : (b : Bool) → eqb k 0 ≡ false → cond (eqb k 0) Clean (cond b (Overflowed t i) (NoDeadline t i)) ≡ Clean → ⊥
-    by true e h = unclean-overflow (sym (ap (λ (x : Bool). cond x Clean (Overflowed t i)) e) ∙ h)
-    by false e h = unclean-undated (sym (ap (λ (x : Bool). cond x Clean (NoDeadline t i)) e) ∙ h)
-
--- code tests what is not so
-pub not-true : (b : Bool) → not b ≡ true → b ≡ false
-not-true true e = sym e
-not-true false e = refl
-
-pub not-false : (b : Bool) → not b ≡ false → b ≡ true
-not-false true e = refl
-not-false false e = sym e
 
 -- a flow shows what they leave
 begun-to : {c : Chain} {s : Run} {t : ℕ} {g : List ℕ} {r : Start} {x : Ticked} → begun c s ≡ x → x .outcome ≡ outcomeAs (r .kind) t (r .node)

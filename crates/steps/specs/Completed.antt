@@ -1,11 +1,11 @@
 -- The second half of a tick, one tick of work and the effect of the firing then finished, one law to each need of its code.
 --   complete-works           the work of its node can grow
 --   complete-goes            it has not worked its execution time: nothing takes effect
+--   Before                   the queue before a node that has worked its execution time
 --   complete-finishes        it has: what the effect of its firing asks
 --   complete-fires, -spills  the firing takes effect, or does not fit
 use mathlib.Core.Path.{_≡_, refl, sym, ap, subst, _∙_}
-use mathlib.Core.Logic.{_≢_}
-use mathlib.Core.Bool.{Bool, true, false, cond, true≢false}
+use mathlib.Core.Bool.{Bool, true, false, true≢false}
 use mathlib.Core.List.{List, [], _∷_}
 use Prim.Native.Nat.{ℕ, zero, suc, _+_, _≤_, _<_}
 use native.Mathlib.Omega.{arith}
@@ -15,26 +15,20 @@ use Rattle.chain.specs.Record.{workOf}
 use Rattle.chain.specs.declared.Chain.{Chain}
 use Rattle.sizing.specs.Plan.{workIn}
 use Rattle.state.specs.State.{countAt, doneAt}
-use Rattle.state.specs.Fired.{count-other}
 use Rattle.state.specs.declared.Run.{Run}
-use Rattle.history.specs.History.{Entry}
 use Rattle.flow.specs.Flow.{Shows}
-use Rattle.instants.specs.Steps.{clean, withDone, worked, ended, finish, finished}
-use Rattle.instants.specs.Kept.{finish-cases, worked-counts, worked-held, worked-clock, worked-same, works-unended, works-on, works-ended, works-ends, unclean-overflow}
+use Rattle.instants.specs.Steps.{clean, worked, ended, finish, finished}
+use Rattle.instants.specs.Kept.{finish-others, worked-counts, worked-held, worked-clock, worked-same, works-unended, works-on, works-ended, works-ends}
+use Rattle.instants.specs.Runs.{unclean-overflow}
+use Rattle.instants.specs.Quiet.{workedIn, worked-done}
 use Rattle.instants.specs.declared.Outcome.{Outcome}
-use Rattle.instants.specs.declared.Outcome.the-variants.{Clean, Overflowed}
+use Rattle.instants.specs.declared.Outcome.the-variants.{Clean}
 use Rattle.instants.specs.declared.Ticked.{Ticked}
 use Rattle.traces.specs.Trace.{tracing, finishEntry, finishTrace}
 use Rattle.traces.specs.Traced.{tracing-none, finish-entry}
-use Rattle.steps.specs.Lent.{workedIn, Works, endedAt, EndsIn, Ends, FinishedTo, FinishedGives}
-use Rattle.steps.specs.Laws.{worked-done, shows-as}
+use Rattle.steps.specs.Lent.{WorkFits, endedAt, EndsIn, Ends, FinishedTo, FinishedGives}
+use Rattle.steps.specs.Laws.{shows-as}
 use Rattle.steps.specs.Passed.{CompletesIn, Completes, CompletedTo, CompletedGives}
-
--- the effect of a firing changes the count of its node alone
-finish-others : (c : Chain) (w : Run) (i k : ℕ) → k ≢ i → countAt (finish c w i .run) k ≡ countAt w k
-unfolding finish
-finish-others c w zero k n = refl
-finish-others c w (suc j) k n = finish-cases c w j (λ x. countAt (x .run) k ≡ countAt w k) (λ e. refl) (λ e. count-other c (withDone w j 0) (suc j) k n)
 
 -- of a state with which the second half may be made
 module _ {l f e : List ℕ} {i : ℕ} {c : Chain} {u : Run} (x : CompletesIn l f e i c u) where
@@ -48,7 +42,7 @@ module _ {l f e : List ℕ} {i : ℕ} {c : Chain} {u : Run} (x : CompletesIn l f
   same-counts : (k : ℕ) → countAt v k ≡ countAt u k
   same-counts k = ap (λ (y : List ℕ). getD y k 0) (worked-counts u i)
 
-  works : Works e i 1
+  works : WorkFits e i 1
   works = record {
     node = omega (arith, x .node, x .filled .chain .chain .count .1);
     less = λ j h.
@@ -56,7 +50,7 @@ module _ {l f e : List ℕ} {i : ℕ} {c : Chain} {u : Run} (x : CompletesIn l f
         omega (arith, ap (λ (y : List ℕ). getD y j 0) (x .done), x .filled .below j m, x .filled .chain .chain .work j m .1);
   }
 
-  -- the plan's execution time is the chain's
+  -- the plan's execution time is the chain's, and the work done is one more
   time-is : (j : ℕ) → i ≡ suc j → (workIn l j ≡ workOf c j) × (getD (workedIn e i 1) j 0 ≡ doneAt u j + 1)
   time-is j h =
       let m : j < c .n = omega (arith, x .node) in (
@@ -71,9 +65,9 @@ module _ {l f e : List ℕ} {i : ℕ} {c : Chain} {u : Run} (x : CompletesIn l f
       let low : getD (workedIn e i 1) j 0 < workIn l j = leb-false _ _ (subst (λ (n : ℕ). endedAt l (workedIn e i 1) n ≡ false) z h) in
       omega (arith, time-is j z .0, time-is j z .1)
 
-  over-ended : (j : ℕ) → i ≡ suc j → endedAt l (workedIn e i 1) i ≡ true → doneAt u j + 1 ≡ workOf c j
+  all-worked : (j : ℕ) → i ≡ suc j → endedAt l (workedIn e i 1) i ≡ true → doneAt u j + 1 ≡ workOf c j
   unfolding endedAt
-  over-ended j z h =
+  all-worked j z h =
       let high : workIn l j ≤ getD (workedIn e i 1) j 0 = leb-true _ _ (subst (λ (n : ℕ). endedAt l (workedIn e i 1) n ≡ true) z h) in
       omega (arith, time-is j z .0, time-is j z .1, x .filled .below j (omega (arith, x .node)))
 
@@ -117,14 +111,14 @@ module _ {l f e : List ℕ} {i : ℕ} {c : Chain} {u : Run} (x : CompletesIn l f
       inside = inside;
       over = x .over (q .queue) (q .is);
       count = x .count (q .queue) (q .is);
-      all = over-ended (q .queue) (q .is) h;
+      all = all-worked (q .queue) (q .is) h;
       done = worked-is ∙ ap (λ (n : ℕ). worked u n .done) (q .is);
     }
 
     ended-is : (ended c v ≡ i) × (finished c v ≡ finish c v i)
     ended-is =
         let q : Before = before h in
-        let all = over-ended (q .queue) (q .is) h in
+        let all = all-worked (q .queue) (q .is) h in
         subst (λ (n : ℕ). (ended c (worked u n) ≡ n) × (finished c (worked u n) ≡ finish c (worked u n) n)) (sym (q .is))
         (works-ended (x .filled) (q .queue) inside all, works-ends (x .filled) (q .queue) inside all)
 
@@ -165,7 +159,7 @@ all-done l e o i w y h = ap (λ (q : List ℕ). endedAt l q i) (sym w) ∙ sym y
 
 -- as the code has it: o is the work done after one tick of work, and b tells whether it is all
 module _ {l f e : List ℕ} {i : ℕ} where
-  pub complete-works : Completes l f e i → Works e i 1
+  pub complete-works : Completes l f e i → WorkFits e i 1
   complete-works a = works (a .is)
 
   module _ {o : List ℕ} {b : Bool} (w : o ≡ workedIn e i 1) (y : b ≡ endedAt l o i) where

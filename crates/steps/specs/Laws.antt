@@ -2,23 +2,22 @@
 --   full-is, -sink, -queue   whether a production fits is what 12 asks of the state that is shown, and how code tests it
 --   rooms-…                  the numbers of that test fit
 --   source-…                 the source's step
---   worked-done, for-done, work-…, ended-…
---                            one tick of work and so many of them, and whether it is all that is to be done
+--   work-…, ended-…          so many ticks of work, and whether it is all that is to be done
+--   as-clean, as-unclean     the code 0 is clean, and no other is
 --   shows-as                 a flow shows every state with the same counts and contents
 --   finish-…                 the effect of a firing that is finished
 use mathlib.Core.Path.{_≡_, refl, sym, ap, ap₂, subst, _∙_}
 use mathlib.Core.Logic.{_≢_, by-cases}
-use mathlib.Core.Bool.{Bool, true, false, cond, _&&_, true≢false}
+use mathlib.Core.Bool.{Bool, true, false, cond, true≢false}
 use mathlib.Core.List.{List, [], _∷_}
 use Prim.Native.Nat.{ℕ, zero, suc, _+_, _-_, _%_, _≤_, _<_, _^_}
 use native.Mathlib.Decide.{decLt}
 use native.Mathlib.Omega.{arith}
-use lib.Dec.{ltb, leb}
+use lib.Dec.{ltb, leb, eqb}
 use lib.ListN.{length, getD, set}
 use borrow.Author.Tests.{eq-eqb, ne-eqb, lt-ltb, le-ltb}
-use Rattle.chain.specs.Record.{rowOf}
 use Rattle.chain.specs.declared.Chain.{Chain}
-use Rattle.sizing.specs.Sizes.{capacityOf, capacity-most}
+use Rattle.sizing.specs.Sizes.{capacity-most}
 use Rattle.state.specs.Fired.{fired, May}
 use Rattle.state.specs.Checks.{cramped}
 use Rattle.state.specs.declared.Run.{Run}
@@ -26,13 +25,26 @@ use Rattle.flow.specs.Flow.{produceIn, heldIn, sizeIn, Shows, Ready, firing, sh
 use Rattle.sizing.specs.Plan.{capacityIn, workIn, periodIn}
 use Rattle.dates.specs.Dues.{Shown}
 use Rattle.instants.specs.Steps.{clean, overflowed, sourced, worked, withDone, finish, finished}
-use Rattle.instants.specs.Kept.{source-may, worked-counts, worked-held, worked-clock, works-ends, finish-may}
-use Rattle.instants.specs.Quiet.{workedFor}
-use Rattle.instants.specs.declared.Outcome.the-variants.{Clean, Overflowed}
+use Rattle.instants.specs.Runs.{unclean-overflow, unclean-undated}
+use Rattle.instants.specs.Filled.{cramped-as}
+use Rattle.instants.specs.Kept.{source-may, worked-counts, worked-held, worked-clock, works-ends, finish-may, fired-done}
+use Rattle.instants.specs.Quiet.{workedIn}
+use Rattle.instants.specs.declared.Outcome.the-variants.{Clean, Overflowed, NoDeadline}
 use Rattle.instants.specs.declared.Ticked.{Ticked}
 use Rattle.traces.specs.Trace.{tracing, sourceEntry}
-use Rattle.steps.specs.Lent.{firedAt, outcomeAs, Stands, fullIn, Rooms, Sources, SourcedTo, SourcedGives, workedIn, endedAt, EndsIn, Ends, FinishedTo, FinishedGives}
+use Rattle.steps.specs.Lent.{firedAt, outcomeAs, Stands, fullIn, Rooms, Sources, SourcedTo, SourcedGives, endedAt, EndsIn, Ends, FinishedTo, FinishedGives}
 use Rattle.steps.specs.declared.Step.{Step}
+
+-- the code 0 is clean, and no other is
+pub as-clean : (k t i : ℕ) → k ≡ 0 → outcomeAs k t i ≡ Clean
+as-clean k t i e = simp (eq-eqb k 0 e)
+
+pub as-unclean : (k t i : ℕ) → k ≢ 0 → outcomeAs k t i ≡ Clean → ⊥
+as-unclean k t i n = by (eqb k 1) (ne-eqb k 0 n)
+  where
+    by : (b : Bool) → eqb k 0 ≡ false → cond (eqb k 0) Clean (cond b (Overflowed t i) (NoDeadline t i)) ≡ Clean → ⊥
+    by true e h = unclean-overflow (sym (ap (λ (x : Bool). cond x Clean (Overflowed t i)) e) ∙ h)
+    by false e h = unclean-undated (sym (ap (λ (x : Bool). cond x Clean (NoDeadline t i)) e) ∙ h)
 
 -- whether the production of N_i does not fit, by the plan and the flow and by the chain and the state that they show
 pub full-is : {l f : List ℕ} {c : Chain} {s : Run} → Shown l f c s → (i : ℕ) → fullIn l f i ≡ cramped c s i
@@ -137,18 +149,7 @@ module _ {l f : List ℕ} {t : ℕ} where
           (λ m n. absurd (true≢false n)) (entry-own c s (rest-is x k ∙ z) ∙ ap (λ (u : ℕ). (u, 0) ∷ []) k);
     }
 
--- one tick of work of N_i, as the definition of a tick has it, and k of them
-pub worked-done : (s : Run) (i : ℕ) → worked s i .done ≡ workedIn (s .done) i 1
-unfolding worked workedIn
-worked-done s zero = refl
-worked-done s (suc j) = refl
-
-pub for-done : (s : Run) (i k : ℕ) → workedFor s i k .done ≡ workedIn (s .done) i k
-unfolding workedIn
-for-done s zero k = refl
-for-done s (suc j) k = refl
-
--- the same as code has it, which counts from 0
+-- k ticks of work as code has them, which counts from 0
 pub work-node : (e : List ℕ) (i k : ℕ) → 0 < i → set e (i - 1) (getD e (i - 1) 0 + k) ≡ workedIn e i k
 unfolding workedIn
 work-node e zero k h = absurd (omega arith)
@@ -184,11 +185,6 @@ shows-as x a h = record {
   holds = λ j l. x .holds j l ∙ sym (ap (λ (y : List ℕ). getD y j 0) h);
 }
 
--- whether a production fits is not changed by work
-cramped-as : (c : Chain) (s t : Run) (i : ℕ) → t .held ≡ s .held → cramped c t i ≡ cramped c s i
-unfolding cramped
-cramped-as c s t i h = λ z. ltb i (c .n) && ltb (capacityOf (rowOf c i)) (getD (h z) i 0 + rowOf c i .produce)
-
 -- what the effect of N_(j+1)'s firing leaves, in each of its two cases
 module _ (c : Chain) (w : Run) (j : ℕ) where
   finish-over : cramped c w (suc j) ≡ true → finish c w (suc j) ≡ overflowed w (w .clock) (suc j)
@@ -198,11 +194,6 @@ module _ (c : Chain) (w : Run) (j : ℕ) where
   finish-clean : cramped c w (suc j) ≡ false → finish c w (suc j) ≡ clean (fired c (withDone w j 0) (suc j))
   unfolding finish
   finish-clean e = simp e
-
--- a firing keeps the work done
-fired-done : (c : Chain) (s : Run) (i : ℕ) → fired c s i .done ≡ s .done
-unfolding fired
-fired-done c s i = refl
 
 module _ {l f e : List ℕ} {i : ℕ} {c : Chain} {u : Run} (x : EndsIn l f e i c u) where
   -- the node's own number, and the state after its work

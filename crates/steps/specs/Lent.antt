@@ -1,5 +1,5 @@
 -- The steps of a tick over what a run lends: what their code asks and gives of the chain and the state that are shown.
---   l, f, d, e               a plan, a flow, the deadline of each node's next firing, and the work done
+--   l, f, d, e               a plan, a flow, the deadline of each node's next firing, and the work done; g and h the flow and the work done afterwards
 --   firedAt b t i            the firing of N_i at t, where b says that there is one
 --   outcomeAs k t i          the outcome of code k, at t, with i
 --   Stands l f c s           the plan and the flow show a state that is filled, and every count can grow
@@ -9,7 +9,7 @@
 --   Keeps d c s              of each node over threshold the deadline of its next firing is kept, or never
 --   Looks, lackOf r, LackingGives, ChosenGives
 --                            the same of 13 and of the choice
---   workedIn e i k, Works    k ticks of work, and what their code asks
+--   WorkFits e i k           what the code of k ticks of work asks
 --   endedAt l e i            whether N_i has worked its execution time
 --   Ends, EndsIn, FinishedTo, FinishedGives
 --                            the same of the effect of a firing that is finished
@@ -18,7 +18,7 @@ use mathlib.Core.Bool.{Bool, false, cond, _&&_}
 use mathlib.Core.List.{List, [], _∷_}
 use Prim.Native.Nat.{ℕ, zero, suc, _+_, _≤_, _<_}
 use lib.Dec.{eqb, ltb, leb}
-use lib.ListN.{getD, set}
+use lib.ListN.{getD}
 use Rattle.chain.specs.Refusals.{fine, refused, Silent}
 use Rattle.chain.specs.Record.{workOf}
 use Rattle.chain.specs.Sound.{Sound}
@@ -34,7 +34,7 @@ use Rattle.sizing.specs.Plan.{capacityIn, workIn}
 use Rattle.dates.specs.Question.{datedOf}
 use Rattle.dates.specs.Dues.{Shown}
 use Rattle.instants.specs.Steps.{clean, sourced, next, lacking, chosen, worked, finished}
-use Rattle.instants.specs.Kept.{Filled}
+use Rattle.instants.specs.Filled.{Filled}
 use Rattle.instants.specs.declared.Outcome.{Outcome}
 use Rattle.instants.specs.declared.Outcome.the-variants.{Clean, Overflowed, NoDeadline}
 use Rattle.traces.specs.Trace.{tracing, sourceEntry}
@@ -104,13 +104,8 @@ pub record LackingGives (f d : List ℕ) (r : ℕ) : Type 0 where
 pub record ChosenGives (f d : List ℕ) (r : ℕ) : Type 0 where
   pub gives : {c : Chain} {s : Run} → Sound c → Shows f c s → Keeps d c s → Silent (lacking c s) → chosen c s ≡ r
 
--- k ticks of work of N_i
-unfoldable pub workedIn : List ℕ → ℕ → ℕ → List ℕ
-workedIn e zero k = e
-workedIn e (suc j) k = set e j (getD e j 0 + k)
-
--- what they ask: work that can grow so far
-pub record Works (e : List ℕ) (i k : ℕ) : Type 0 where
+-- what k ticks of work of N_i ask: work that can grow so far
+pub record WorkFits (e : List ℕ) (i k : ℕ) : Type 0 where
   pub node : i ≤ 16
   pub less : (j : ℕ) → i ≡ suc j → getD e j 0 + k ≤ limit
 

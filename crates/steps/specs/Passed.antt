@@ -9,7 +9,7 @@
 --                            there is such a state, what they make of it, and of every such state
 --   PassIn l f d e t i c s   what a tick asks of the state s: t is its clock, e the work done, i the node that works, or stale
 --   Passes                   there is such a state
---   PassTo c s g h r         what it makes of s
+--   PassTo c s t g h r       what it makes of s
 --   PassGives                and of every such state
 use mathlib.Core.Path.{_≡_}
 use mathlib.Core.Logic.{_≢_, _⊎_}
@@ -27,7 +27,7 @@ use Rattle.flow.specs.Flow.{Shows}
 use Rattle.dates.specs.Question.{datedOf}
 use Rattle.dates.specs.Dues.{Shown}
 use Rattle.instants.specs.Steps.{clean, next, sourced, lacking, begun, chosen, worked, finished, tick}
-use Rattle.instants.specs.Kept.{Filled}
+use Rattle.instants.specs.Filled.{Filled}
 use Rattle.traces.specs.Trace.{tracing, sourceEntry, finishTrace, tickTrace}
 use Rattle.steps.specs.Lent.{firedAt, outcomeAs, Stands, Keeps}
 use Rattle.steps.specs.declared.Step.{Step}
@@ -108,7 +108,7 @@ pub record Passes (l f d e : List ℕ) (t i : ℕ) : Type 0 where
   pub run : Run
   pub is : PassIn l f d e t i chain run
 
--- what it makes of it: the outcome and the state, and its firings, which are the trace's; the node that works is known where none has fired, and no other
+-- what it makes of it: the outcome and the state, and its firings, which are the trace's; the node that works is known where it has not fired, and no other
 -- node's count has changed
 pub record PassTo (c : Chain) (s : Run) (t : ℕ) (g h : List ℕ) (r : Passed) : Type 0 where
   pub outcome : tick c s .outcome ≡ outcomeAs (r .kind) (r .tick) (r .node)

@@ -3,42 +3,31 @@
 --   pass-ends                the tick ends there
 --   pass-completes           what its second half asks
 --   pass-goes                what both halves leave
-use mathlib.Core.Path.{_≡_, refl, sym, ap, ap₂, subst, _∙_}
+use mathlib.Core.Path.{_≡_, sym, ap, ap₂, subst, _∙_}
 use mathlib.Core.Logic.{_≢_}
 use mathlib.Core.Bool.{Bool, false, true≢false}
 use mathlib.Core.List.{List, [], _++_}
-use Prim.Native.Nat.{ℕ, zero, suc, _+_, _≤_, _<_}
+use Prim.Native.Nat.{ℕ, suc, _+_, _≤_}
 use native.Mathlib.Omega.{arith}
-use lib.ListN.{getD}
 use Rattle.chain.specs.Refusals.{Silent}
 use Rattle.chain.specs.declared.Chain.{Chain}
 use Rattle.state.specs.State.{countAt}
 use Rattle.state.specs.declared.Run.{Run}
 use Rattle.history.specs.History.{Entry}
 use Rattle.flow.specs.Flow.{Shows}
-use Rattle.instants.specs.Steps.{clean, withDone, sourced, lacking, chosen, worked, ended, finish, finished, begun, tick}
-use Rattle.instants.specs.Kept.{finish-cases, begun-stays, SourceStep, sourced-clean, begun-clean, tick-ends, tick-works}
-use Rattle.instants.specs.Kept.{chosen-low, chosen-over, worked-counts, worked-held, worked-clock, fired-clock}
-use Rattle.instants.specs.Quiet.{lacking-as, chosen-as}
+use Rattle.instants.specs.Steps.{clean, sourced, lacking, chosen, worked, finished, begun, tick}
+use Rattle.instants.specs.Kept.{begun-stays, SourceStep, sourced-clean, begun-clean, tick-ends, tick-works}
+use Rattle.instants.specs.Filled.{lacking-as, chosen-as}
+use Rattle.instants.specs.Kept.{chosen-low, chosen-over, worked-counts, worked-held, worked-clock, finished-clock}
 use Rattle.instants.specs.declared.Outcome.the-variants.{Clean}
 use Rattle.instants.specs.declared.Ticked.{Ticked}
-use Rattle.traces.specs.Trace.{tracing, sourceEntry, finishTrace, tickTrace}
+use Rattle.traces.specs.Trace.{tracing, sourceEntry, finishTrace}
 use Rattle.traces.specs.Traced.{tracing-none, tick-entries, tick-entries-none}
 use Rattle.steps.specs.Lent.{firedAt, outcomeAs}
-use Rattle.steps.specs.Begun.{as-clean, as-unclean}
+use Rattle.steps.specs.Laws.{as-clean, as-unclean}
 use Rattle.steps.specs.Passed.{Known, BegunTo, BegunGives, CompletesIn, Completes, CompletedTo, CompletedGives, PassIn, Passes, PassTo, PassGives}
 use Rattle.steps.specs.declared.Step.{Step}
 use Rattle.steps.specs.declared.Start.{Start}
-
--- the effect of a firing does not move the clock
-finish-clock : (c : Chain) (w : Run) (i : ℕ) → finish c w i .run .clock ≡ w .clock
-unfolding finish
-finish-clock c w zero = refl
-finish-clock c w (suc j) = finish-cases c w j (λ x. x .run .clock ≡ w .clock) (λ e. refl) (λ e. fired-clock c (withDone w j 0) (suc j))
-
-finished-clock : (c : Chain) (w : Run) → finished c w .run .clock ≡ w .clock
-unfolding finished
-finished-clock c w = finish-clock c w (ended c w)
 
 -- what a tick knows once the source's step and 13 were clean
 pub record Working (c : Chain) (s : Run) (g : List ℕ) (i : ℕ) : Type 0 where
@@ -49,12 +38,12 @@ pub record Working (c : Chain) (s : Run) (g : List ℕ) (i : ℕ) : Type 0 where
   pub node : chosen c (begun c s .run) ≡ i
 
 module _ {l f d e g : List ℕ} {t i : ℕ} {r : Start} (b : BegunGives l f d t i g r) where
-  started : {c : Chain} {s : Run} → PassIn l f d e t i c s → BegunTo c s t g r
-  started x = b .gives (x .stands) (x .clock) (x .keeps) (x .known)
+  begins : {c : Chain} {s : Run} → PassIn l f d e t i c s → BegunTo c s t g r
+  begins x = b .gives (x .stands) (x .clock) (x .keeps) (x .known)
 
   working : {c : Chain} {s : Run} → PassIn l f d e t i c s → r .kind ≡ 0 → Working c s g (r .node)
   working {c} {s} x z =
-      let y : BegunTo c s t g r = started x in
+      let y : BegunTo c s t g r = begins x in
       let o : begun c s .outcome ≡ Clean = y .outcome ∙ as-clean (r .kind) t (r .node) z in
       let q = begun-clean c s o in
       let is : sourced c s .run ≡ begun c s .run = ap (λ (v : Ticked). v .run) (sym (q .1 .1)) in
@@ -70,7 +59,7 @@ module _ {l f d e g : List ℕ} {t i : ℕ} {r : Start} (b : BegunGives l f d t 
   pub pass-ends : r .kind ≢ 0 → PassGives l f d e t i g e (record { kind = r .kind; tick = t; node = r .node; source = r .source; fired = false })
   pass-ends n = record {
     gives = λ {c} {s} x.
-        let y : BegunTo c s t g r = started x in
+        let y : BegunTo c s t g r = begins x in
         let o : begun c s .outcome ≡ Clean → ⊥ = λ h. as-unclean (r .kind) t (r .node) n (sym (y .outcome) ∙ h) in
         let q : tick c s ≡ begun c s = tick-ends c s o in
         let stays : tick c s .run ≡ s = ap (λ (v : Ticked). v .run) q ∙ begun-stays c s o in
@@ -139,4 +128,4 @@ module _ {l f d e g : List ℕ} {t i : ℕ} {r : Start} (b : BegunGives l f d t 
 
   pub pass-goes : {m o : List ℕ} {y : Step} → CompletedGives l g e (r .node) m o y
       → PassGives l f d e t i m o (record { kind = y .kind; tick = t + 1; node = r .node; source = r .source; fired = y .fired })
-  pass-goes q = record { gives = λ p. let w = working b p z in both p w (started b p .entry) (q .gives (completes p w)) }
+  pass-goes q = record { gives = λ p. let w = working b p z in both p w (begins b p .entry) (q .gives (completes p w)) }

@@ -1,10 +1,11 @@
 // The steps of a tick over what a run lends: its plan, its flow, the work done and the deadline of each node's next
-// firing. A tick composes them, and so does a run, which makes them once for every tick.
+// firing. A tick composes them. A run makes such ticks, and jumps over those in which nothing but work goes on.
 ghost use mathlib.Core.Path.{_≡_};
 ghost use Prim.Native.Nat.{_≤_};
-ghost use Rattle.steps.specs.Lent.{fullIn, Rooms, Sources, SourcedGives, Looks, LackingGives, ChosenGives, workedIn, Works, endedAt, Ends, FinishedGives};
+ghost use Rattle.instants.specs.Quiet.{workedIn};
+ghost use Rattle.steps.specs.Lent.{fullIn, Rooms, Sources, SourcedGives, Looks, LackingGives, ChosenGives, WorkFits, endedAt, Ends, FinishedGives};
 ghost use Rattle.steps.specs.Passed.{Stand, DuesGive, BegunGives, Completes, CompletedGives, Passes, PassGives};
-ghost use Rattle.steps.specs.Jumped.{Unended, UnfinishedGives, Quiets, QuietGives, JumpedGives};
+ghost use Rattle.steps.specs.Jumped.{Unfinished, UnfinishedGives, Quiets, QuietGives, JumpedGives};
 use dates::NEVER;
 use flow::COUNTS;
 use flow::HELD;
@@ -99,24 +100,24 @@ pub fn begun(
     let held = flow[HELD];
     let step = sourced(plan, flow, clock);
     if step.kind != CLEAN {
-        return started(step.kind, false, 0);
+        return begun_as(step.kind, false, 0);
     }
     if node < STALE {
         if !step.fired {
-            return started(CLEAN, false, node);
+            return begun_as(CLEAN, false, node);
         }
     }
     let without = lacking(flow, due);
     if without != 0 {
         flow[COUNTS] = count;
         flow[HELD] = held;
-        return started(NO_DEADLINE, false, without);
+        return begun_as(NO_DEADLINE, false, without);
     }
-    started(CLEAN, step.fired, chosen(flow, due))
+    begun_as(CLEAN, step.fired, chosen(flow, due))
 }
 
 // What the first half of a tick leaves.
-fn started(kind: u32, source: bool, node: usize) -> Start
+fn begun_as(kind: u32, source: bool, node: usize) -> Start
     ensures { λ r. ⌜ r ≡ record { kind = kind; source = source; node = node } ⌝ }
 {
     Start {
@@ -137,13 +138,13 @@ pub fn completed(
     ensures { λ r. ⌜ CompletedGives (now (plan .entry)) (now (flow .entry)) (now (done .entry)) i (now (flow .exit)) (now (done .exit)) r ⌝ }
 {
     worked(done, i, 1);
-    if !has_ended(plan, done, i) {
-        return stepped(CLEAN, false);
+    if has_ended(plan, done, i) {
+        if finished(plan, flow, done, i) {
+            return stepped(CLEAN, true);
+        }
+        return stepped(OVERFLOWED, false);
     }
-    if finished(plan, flow, done, i) {
-        return stepped(CLEAN, true);
-    }
-    stepped(OVERFLOWED, false)
+    stepped(CLEAN, false)
 }
 
 // What a step leaves in which a node may fire.
@@ -190,7 +191,7 @@ fn quiet(plan: &[u32; PLAN], done: &[u32; 16], clock: u32, until: u32, i: usize)
 
 // Of so many ticks those in which the work of node i, where there is one, goes on and its firing is not finished.
 fn unfinished(plan: &[u32; PLAN], done: &[u32; 16], ticks: u32, i: usize) -> u32
-    requires { ⌜ Unended (now plan) (now done) i ⌝ }
+    requires { ⌜ Unfinished (now plan) (now done) i ⌝ }
     ensures { λ r. ⌜ UnfinishedGives (now (plan .entry)) (now (done .entry)) ticks i r ⌝ }
 {
     if i == 0 {
@@ -279,7 +280,7 @@ pub fn chosen(flow: &[u32; LENGTH], due: &[u64; 16]) -> usize
 
 // So many ticks of work of node i, where there is one; the clock goes on in `pass` and `jumped`.
 pub fn worked(done: &mut [u32; 16], i: usize, ticks: u32)
-    requires { ⌜ Works (now done) i ticks ⌝ }
+    requires { ⌜ WorkFits (now done) i ticks ⌝ }
     ensures { λ _. ⌜ now (done .exit) ≡ workedIn (now (done .entry)) i ticks ⌝ }
 {
     if 0 < i {

@@ -22,7 +22,7 @@ use Rattle.instants.specs.Checks.{longest, clockCheck, spentCheck, tickRefusal,
 use Rattle.instants.specs.Steps.{onward, tick, ticks}
 use Rattle.instants.specs.Runs.{onward-none, ticks-none, ticks-suc}
 use Rattle.instants.specs.Refusals.{Ticking, ranAs, refusedAs, tick-parts, tick-ran, tick-refused, ticking-is, length-exact, deadline-run-parts, deadline-run-accepts, deadline-run-ran, deadline-run-refused}
-use Rattle.instants.specs.Kept.{running-filled}
+use Rattle.instants.specs.Filled.{running-filled}
 use Rattle.instants.specs.Fresh.{fresh-running, run-is-ticks}
 use Rattle.ticks.specs.Left.{refusedWith, leftBy, left-is}
 use Rattle.ticks.specs.Runs.{LendsIn, Lends, RanGives}

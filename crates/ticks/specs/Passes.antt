@@ -1,4 +1,4 @@
--- Ticks over what is lent: what holds before each of them.
+-- Ticks over what is lent: what holds before each that is made.
 --   kept-as                  a deadline that is kept stays right while its node's count stays
 --   stands-in                a state that is lent for a tick is one that a tick can be made of
 --   endedBy r, allClean k    how ticks end with one that leaves r, and where all are clean up to clock k
@@ -12,7 +12,7 @@
 --   going-ends, -done        at the first outcome that is not clean, and after the last tick
 use mathlib.Core.Path.{_≡_, refl, sym, ap, subst, _∙_}
 use mathlib.Core.Logic.{_≢_, _⊎_, inl, inr, ⊎-elim, by-cases}
-use mathlib.Core.Bool.{Bool, true, false, cond}
+use mathlib.Core.Bool.{true, false, true≢false}
 use mathlib.Core.List.{List}
 use Prim.Native.Nat.{ℕ, suc, _+_, _-_, _≤_, _<_, _∣_}
 use native.Mathlib.Decide.{ℕ-discrete}
@@ -31,16 +31,15 @@ use Rattle.state.specs.declared.Run.{Run}
 use Rattle.dates.specs.Question.{datedOf}
 use Rattle.dates.specs.Dues.{Shown, Dated, DatedGives}
 use Rattle.instants.specs.Steps.{onward, sourced, next, lacking, chosen, tick, ticks}
-use Rattle.instants.specs.Runs.{ticks-none, ticks-suc}
-use Rattle.instants.specs.Kept.{goes-on, goes-no-further, sourced-others, sourced-held, TickStep, tick-step}
-use Rattle.instants.specs.Quiet.{lacking-as, chosen-as, workedFor, for-counts, for-held, for-clock, for-none, quiet-filled, quiet-run}
-use Rattle.instants.specs.declared.Outcome.{Outcome}
-use Rattle.instants.specs.declared.Outcome.the-variants.{Clean, Overflowed, NoDeadline}
+use Rattle.instants.specs.Runs.{ticks-none, ticks-suc, onward-goes, onward-stops}
+use Rattle.instants.specs.Kept.{sourced-others, sourced-held, TickStep, tick-step}
+use Rattle.instants.specs.Filled.{lacking-as, chosen-as}
+use Rattle.instants.specs.Quiet.{workedIn, workedFor, for-none, quiet-filled, quiet-run}
+use Rattle.instants.specs.declared.Outcome.the-variants.{Clean}
 use Rattle.instants.specs.declared.Ticked.{Ticked}
-use Rattle.steps.specs.Lent.{workedIn, Stands}
-use Rattle.steps.specs.Laws.{for-done, shows-as}
+use Rattle.steps.specs.Lent.{Stands}
+use Rattle.steps.specs.Laws.{shows-as, as-clean, as-unclean}
 use Rattle.steps.specs.Passed.{Stand, Wanted, DuesGive, Known, PassIn, Passes, PassTo, PassGives}
-use Rattle.steps.specs.Begun.{as-clean, as-unclean}
 use Rattle.steps.specs.Jumped.{Quiets, QuietGives, JumpedGives}
 use Rattle.steps.specs.declared.Passed.{Passed}
 use Rattle.ticks.specs.Runs.{LendsIn, Lends, RanTo, RanGives}
@@ -125,7 +124,7 @@ module _ {l g o h : List ℕ} {k U i : ℕ} {c : Chain} {x : Ticked} (y : Gone l
     ends-now : r .kind ≢ 0 → RanTo c x u v (endedBy r)
     ends-now n =
         let last : tick c now .outcome ≡ Clean → ⊥ = λ z. as-unclean (r .kind) (r .tick) (r .node) n (sym (p .outcome) ∙ z) in
-        subst (λ (q : Ticked). RanTo c q u v (endedBy r)) (sym (goes-no-further (tick c now) _ last) ∙ rest-is)
+        subst (λ (q : Ticked). RanTo c q u v (endedBy r)) (sym (onward-stops (tick c now) _ last) ∙ rest-is)
         (record { outcome = p .outcome; clock = p .clock; shows = p .shows; done = p .done })
 
     module _ (z : r .kind ≡ 0) where
@@ -150,7 +149,7 @@ module _ {l g o h : List ℕ} {k U i : ℕ} {c : Chain} {x : Ticked} (y : Gone l
           long = omega (arith, y .lends .long);
           counts = λ j n. omega (arith, after .counts j n, y .lends .counts j n);
         };
-        rest = sym (goes-on (tick c now) _ went) ∙ rest-is;
+        rest = sym (onward-goes (tick c now) _ went) ∙ rest-is;
         keeps = λ m j n w. keeps m j n;
         wide = wide;
         known = known;
@@ -158,7 +157,7 @@ module _ {l g o h : List ℕ} {k U i : ℕ} {c : Chain} {x : Ticked} (y : Gone l
 
       gone-rests : r .fired ≡ false → Gone l u o v (k + 1) U (r .node) c x
       gone-rests n = gone-next
-          (λ m j b. kept-as c now (tick c now .run) j (p .others z j (λ a. absurd (let q : _≡_ {A = ℕ} 1 0 = ap (λ (x : Bool). cond x 1 0) (sym a ∙ n) in omega arith))) (y .keeps more j b (inl m)))
+          (λ m j b. kept-as c now (tick c now .run) j (p .others z j (λ a. absurd (true≢false (sym a ∙ n)))) (y .keeps more j b (inl m)))
           (y .wide) (p .known z n)
 
       gone-last : U ≤ k + 1 → Gone l u o v (k + 1) U 17 c x
@@ -197,15 +196,15 @@ module _ {l g o h : List ℕ} {k U i : ℕ} {c : Chain} {x : Ticked} (y : Gone l
   own-work j z = (ap (λ (e : List ℕ). getD e j 0) (y .lends .done), y .lends .shown .plans .works j (omega (arith, low)))
 
   quiets : k ≤ U → Quiets l h k U i
-  quiets late = record {
+  quiets from = record {
     work = record {
       node = omega (arith, low, y .lends .shown .shows .few);
       less = λ j z. let w = own-work j z in omega (arith, w .0, w .1, y .lends .filled .below j (omega (arith, low)));
     };
     short = λ j z. let w = own-work j z in omega (arith, w .1, y .lends .filled .chain .chain .work j (omega (arith, low)) .1);
     period = omega (arith, y .lends .shown .plans .period, y .lends .filled .chain .chain .period .0);
-    late = late;
-    end = omega (arith, late, y .lends .long);
+    from = from;
+    end = omega (arith, from, y .lends .long);
   }
 
   -- so many of them are a jump
@@ -219,32 +218,27 @@ module _ {l g o h : List ℕ} {k U i : ℕ} {c : Chain} {x : Ticked} (y : Gone l
     rests : (m : ℕ) → m < r → c .period ∣ (y .now .clock + m) → ⊥
     rests m b d = q .rests m b (subst (λ (e : ℕ). e ∣ (k + m)) (sym (y .lends .shown .plans .period)) (subst (λ (t : ℕ). c .period ∣ (t + m)) (y .lends .clock) d))
 
-    same-count : (j : ℕ) → countAt then j ≡ countAt (y .now) j
-    same-count j = ap (λ (e : List ℕ). getD e j 0) (for-counts (y .now) r i)
-
     gone-jumps : {u : List ℕ} → u ≡ workedIn h i r → Gone l g o u (k + r) U i c x
     gone-jumps {u} done =
-        let as-counts = for-counts (y .now) r i in
-        let as-held = for-held (y .now) r i in
         let left : U - k ≡ r + (U - (k + r)) = omega (arith, q .within) in
         record {
           now = then;
           lends = record {
-            shown = record { plans = y .lends .shown .plans; shows = shows-as (y .lends .shown .shows) as-counts as-held };
+            shown = record { plans = y .lends .shown .plans; shows = shows-as (y .lends .shown .shows) refl refl };
             filled = quiet-filled r (y .lends .filled) i on;
-            clock = for-clock (y .now) r i ∙ ap (λ (t : ℕ). t + r) (y .lends .clock);
-            done = done ∙ ap (λ (e : List ℕ). workedIn e i r) (y .lends .done) ∙ sym (for-done (y .now) i r);
+            clock = ap (λ (t : ℕ). t + r) (y .lends .clock);
+            done = done ∙ ap (λ (e : List ℕ). workedIn e i r) (y .lends .done);
             long = omega (arith, q .within, y .lends .long);
-            counts = λ j n. omega (arith, same-count j, y .lends .counts j n, left);
+            counts = λ j n. omega (arith, y .lends .counts j n, left);
           };
           rest = sym (quiet-run r (U - (k + r)) (y .lends .filled) (stands .0) i (stands .1) rests on) ∙ ap (λ (n : ℕ). ticks c n (y .now)) (sym left) ∙ y .rest;
-          keeps = λ m j n w. kept-as c (y .now) then j (same-count (suc j)) (keeps-now m j n w);
+          keeps = keeps-now;
           wide = y .wide;
-          known = λ b. (subst Silent (sym (lacking-as c (y .now) then as-counts as-held)) (stands .0), chosen-as c (y .now) then as-counts as-held ∙ stands .1);
+          known = λ b. (subst Silent (sym (lacking-as c (y .now) then refl refl)) (stands .0), chosen-as c (y .now) then refl refl ∙ stands .1);
         }
       where
         -- a node that the source's step leaves over threshold at the end of the jump is one whose deadline was kept
-        keeps-now : k + r < U → (j : ℕ) → j < c .n → (k + r + 1 < U) ⊎ Over c (sourced c then .run) (suc j) → getD o j 0 ≡ datedOf c (suc j) (next (y .now) (suc j))
+        keeps-now : k + r < U → (j : ℕ) → j < c .n → (k + r + 1 < U) ⊎ Over c (sourced c then .run) (suc j) → getD o j 0 ≡ datedOf c (suc j) (next then (suc j))
         keeps-now m j n w = by-cases (ℕ-discrete r 0)
             (λ z.
             let still : then ≡ y .now = ap (workedFor (y .now) i) z ∙ for-none (y .now) i in

@@ -14,7 +14,7 @@ use Rattle.flow.specs.Flow.{Shows}
 use Rattle.dates.specs.Dues.{Shown}
 use Rattle.instants.specs.Steps.{ticks}
 use Rattle.instants.specs.Checks.{longest}
-use Rattle.instants.specs.Kept.{Filled}
+use Rattle.instants.specs.Filled.{Filled}
 use Rattle.instants.specs.declared.Ticked.{Ticked}
 use Rattle.steps.specs.Lent.{outcomeAs}
 use Rattle.ticks.specs.declared.Ended.{Ended}

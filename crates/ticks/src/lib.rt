@@ -114,8 +114,8 @@ fn late_check(chain: Chain, run: Run) -> Refusal
 }
 
 // So many ticks of the state that is lent, from its clock on, up to the first outcome that is not clean. A single tick looks
-// at few deadlines. After the last no deadline is made, since the node that fired may have no next firing. Where none has
-// fired, the choice stands, and the quiet ticks that follow are one step.
+// at few deadlines. After the last no deadline is made, since the node that fired may have no next firing. Where no firing
+// took effect, the choice stands, and the quiet ticks that follow are one step.
 fn passes(
     plan: &[u32; PLAN],
     flow: &mut [u32; LENGTH],
@@ -134,11 +134,7 @@ fn passes(
         let passed = steps::pass(plan, flow, &due, done, clock, node);
         node = passed.node;
         if passed.kind != CLEAN {
-            return Ended {
-                kind: passed.kind,
-                tick: passed.tick,
-                at: node,
-            };
+            return ended_with(passed.kind, passed.tick, node);
         }
         clock += 1;
         if passed.fired {
@@ -150,10 +146,17 @@ fn passes(
             clock = steps::jumped(plan, done, clock, until, node);
         }
     }
+    ended_with(CLEAN, clock, 0)
+}
+
+// How ticks ended.
+fn ended_with(kind: u32, tick: u32, at: usize) -> Ended
+    ensures { λ r. ⌜ r ≡ record { kind = kind; tick = tick; at = at } ⌝ }
+{
     Ended {
-        kind: CLEAN,
-        tick: clock,
-        at: 0,
+        kind: kind,
+        tick: tick,
+        at: at,
     }
 }
 

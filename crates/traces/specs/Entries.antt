@@ -31,7 +31,8 @@ use Rattle.state.specs.declared.Run.{Run}
 use Rattle.history.specs.History.{Entry, nodes, times}
 use Rattle.instants.specs.Checks.{deadlineRunAnswer}
 use Rattle.instants.specs.Steps.{clean, goes, onward, divides, begun, chosen, worked, ended, finished, advanced, tick, ticks, instants}
-use Rattle.instants.specs.Kept.{source-cases, onward-cases, begun-clean, worked-clock, fired-clock}
+use Rattle.instants.specs.Kept.{source-cases, begun-clean, worked-clock, fired-clock}
+use Rattle.instants.specs.Runs.{onward-cases}
 use Rattle.instants.specs.Fresh.{run-is-ticks}
 use Rattle.instants.specs.Answers.{run-may, ran-to, run-start, CleanStep, along}
 use Rattle.instants.specs.Totals.{tick-source, workedBy, tick-work, fresh-work, run-clock}

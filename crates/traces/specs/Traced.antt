@@ -32,9 +32,11 @@ use Rattle.state.specs.declared.Run.{Run}
 use Rattle.history.specs.History.{Entry, nodes, times, after, Permitted, HasHeld, after-append, EachFiring, each-append}
 use Rattle.history.specs.Laws.{counted, balance, naming}
 use Rattle.instants.specs.Checks.{longest}
+use Rattle.instants.specs.Runs.{onward-goes, onward-stops}
 use Rattle.instants.specs.Steps.{clean, overflowed, undated, onward, goes, withDone, divides, sourced, lacking, begun}
 use Rattle.instants.specs.Steps.{chosen, worked, endedIn, ended, finish, finished, advanced, tick, ticks, instants}
-use Rattle.instants.specs.Kept.{finish-cases, Running, running-filled, SourceStep, source-running, Countable, source-may, sourced-clean, begun-clean, chosen-over, goes-on, goes-no-further}
+use Rattle.instants.specs.Kept.{finish-cases, SourceStep, source-running, Countable, source-may, sourced-clean, begun-clean, chosen-over}
+use Rattle.instants.specs.Filled.{Running, running-filled}
 use Rattle.instants.specs.Kept.{worked-counts, worked-held, worked-other, worked-same, cleared-running, finish-may, tick-step}
 use Rattle.instants.specs.Fresh.{Paced, fresh-paced, paced-countable, tick-paced, run-is-ticks}
 use Rattle.instants.specs.declared.Outcome.{Outcome}
@@ -59,13 +61,13 @@ module _ (c : Chain) (s : Run) where
   pub tick-entries-none : (begun c s .outcome ≡ Clean → ⊥) → tickTrace c s ≡ []
   unfolding tickTrace advanced
   tick-entries-none n =
-      let last = goes-no-further (begun c s) (λ u. clean (worked u (chosen c u))) n in
+      let last = onward-stops (begun c s) (λ u. clean (worked u (chosen c u))) n in
       ap₂ _++_ (tracing-none (begun c s .outcome) s _ n) (ap (λ (x : Ticked). tracing (x .outcome) (x .run) (finishTrace c)) last ∙ tracing-none (begun c s .outcome) (begun c s .run) _ n)
 
   pub tick-entries : begun c s .outcome ≡ Clean
       → tickTrace c s ≡ tracing (begun c s .outcome) s (λ u. sourceEntry c s) ++ finishTrace c (worked (begun c s .run) (chosen c (begun c s .run)))
   unfolding tickTrace advanced tracing
-  tick-entries h = ap (λ (x : Ticked). tracing (begun c s .outcome) s (λ u. sourceEntry c s) ++ tracing (x .outcome) (x .run) (finishTrace c)) (goes-on (begun c s) _ h)
+  tick-entries h = ap (λ (x : Ticked). tracing (begun c s .outcome) s (λ u. sourceEntry c s) ++ tracing (x .outcome) (x .run) (finishTrace c)) (onward-goes (begun c s) _ h)
 
 -- a state that passes 17 passes it at rest
 resting-sound : {c : Chain} {s : Run} → Running c s → StateSound c (resting s)

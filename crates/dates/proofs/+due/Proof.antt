@@ -1,4 +1,4 @@
--- `deadline::due` meets its contract: the index is at the source, or passes the limit, or is followed down; the node falls from call to call.
+-- `dates::due` meets its contract: the index is at the source, or passes the limit, or is followed down; the node falls from call to call.
 use Prim.Native.Nat.{ℕ, _<_}
 use borrow.Fn.Kinds.{In}
 use borrow.Fn.PlainCycle.{Measures, is, falls, and}

@@ -1,4 +1,4 @@
--- `deadline::passing` meets its contract: the index is at the source, or is followed down, or passes the limit; the node falls from call to call.
+-- `dates::passing` meets its contract: the index is at the source, or is followed down, or passes the limit; the node falls from call to call.
 use Prim.Native.Nat.{ℕ, _<_}
 use borrow.Fn.Kinds.{In}
 use borrow.Fn.PlainCycle.{Measures, is, falls, and}

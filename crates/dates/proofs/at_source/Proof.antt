@@ -1,4 +1,4 @@
--- `deadline::at_source` meets its contract: the product of two words fits.
+-- `dates::at_source` meets its contract: the product of two words fits.
 use borrow.Author.Needs.{needs}
 use Prim.Native.Nat.{_-_, _≤_}
 use native.Mathlib.Nat.{mul-le-mul}

@@ -1,4 +1,4 @@
--- `deadline::dated` meets its contract: the next firing's index is one more than the count.
+-- `dates::dated` meets its contract: the next firing's index is one more than the count.
 use borrow.Author.Needs.{needs}
 use native.Mathlib.Omega.{arith}
 use Rattle.dates.proofs.Answers.{dated-count, dated-dues, dated-gives}

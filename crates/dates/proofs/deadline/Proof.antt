@@ -1,5 +1,5 @@
+-- `dates::deadline` meets its contract: the chain may not run, or there is no such node or firing, or the index is followed down, and passes the limit or not.
 use borrow.Author.Needs.{needs}
--- `deadline::deadline` meets its contract: the chain may not run, or there is no such node or firing, or the index is followed down, and passes the limit or not.
 use mathlib.Core.Path.{_∙_}
 use Rattle.dates.proofs.Answers.{chain-refuses, sound-chain, ask-refuses, fresh-dues, never-answers, had-answers}
 use Rattle.dates.proofs.deadline.Statement.{statement}

@@ -1,4 +1,4 @@
--- `deadline::index_before` meets its contract: an index times c, and the capacity, fit 64 bits.
+-- `dates::index_before` meets its contract: an index times c, and the capacity, fit 64 bits.
 use borrow.Author.Needs.{needs}
 use Prim.Native.Nat.{_+_, _-_, _*_, _≤_}
 use native.Mathlib.Nat.{mul-le-mul, div-le-self}

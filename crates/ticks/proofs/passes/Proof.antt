@@ -1,4 +1,4 @@
--- `ticks::passes` meets its contract: before each tick a state is lent whose ticks up to the end leave what all of them leave (`Going`).
+-- `ticks::passes` meets its contract: before each pass a state is lent whose ticks up to the end leave what all of them leave (`Going`).
 use Prim.Native.Nat.{_-_}
 use native.Mathlib.Omega.{arith}
 use borrow.Author.Needs.{needs}
@@ -24,8 +24,11 @@ loop-holds c = going-none (c .dues .ensures) (search needs)
 pass-requires : tie.Need-pass-requires Inv-loop μ-loop
 pass-requires c κs = going-pass (c .before .before .before .before .loop .inv) (c .before .before .before .loop-test .taken) (c .before .before .before .before .before .before .before .pre)
 
+ended-with-requires : tie.Need-ended-with-requires Inv-loop μ-loop
+ended-with-requires c κs = search needs
+
 returns : tie.Need-returns Inv-loop μ-loop
-returns c = going-ends (c .before .before .before .before .before .before .before .loop .inv) (c .before .before .before .before .before .before .loop-test .taken) (c .before .before .pass .ensures) (c .if1 .taken) (c .before .before .before .before .before .before .before .before .before .before .pre)
+returns c = rw (c .ended-with .ensures) (going-ends (c .before .before .before .before .before .before .before .before .loop .inv) (c .before .before .before .before .before .before .before .loop-test .taken) (c .before .before .before .pass .ensures) (c .before .if1 .taken) (c .before .before .before .before .before .before .before .before .before .before .before .pre))
 
 add-clock : tie.Need-add-clock Inv-loop μ-loop
 add-clock c = search needs
@@ -63,8 +66,11 @@ loop-less-3 c = going-less (c .before .before .before .before .before .before .b
 loop-again-3 : tie.Need-loop-again-3 Inv-loop μ-loop
 loop-again-3 c = going-jumps (c .before .before .before .before .before .before .before .before .before .before .loop .inv) (c .before .before .before .before .before .before .before .before .before .loop-test .taken) (c .before .before .before .before .before .pass .ensures) (c .before .before .before .if1 .left) (c .before .before .if2 .left) (c .jumped .ensures)
 
+ended-with-requires-2 : tie.Need-ended-with-requires-2 Inv-loop μ-loop
+ended-with-requires-2 c κs = search needs
+
 returns-2 : tie.Need-returns-2 Inv-loop μ-loop
-returns-2 c = going-done (c .before .loop .inv) (c .loop-test .left)
+returns-2 c = rw (c .ended-with2 .ensures) (going-done (c .before .before .loop .inv) (c .before .loop-test .left))
 
 pub passes-spec : {M : Type 1} → statement M
 passes-spec =
@@ -76,6 +82,7 @@ passes-spec =
     dues-requires
     loop-holds
     pass-requires
+    ended-with-requires
     returns
     add-clock
     dated-requires
@@ -89,4 +96,5 @@ passes-spec =
     jumped-requires
     loop-less-3
     loop-again-3
+    ended-with-requires-2
     returns-2)
