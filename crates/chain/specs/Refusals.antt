@@ -12,7 +12,7 @@
 --                            lists in a row; a number for each check; and a check that speaks has its own
 --   absent, distinct         a number stands in no list; no number of a list is 0 or stands twice
 --   elsewhere k Ns, standsOnce k Ns
---                            the numbers at every place but k; and the one at k is not 0 and is none of them
+--                            the numbers at every place but k; and the one at k is not 0 and is none of them; stands-once-figure: of 1, 2, 1, 3
 --   Others N Ns              N is none of the numbers, of which each is to be shown
 --   number-of, silent-as     equal refusals have equal numbers, and are silent together
 --   or-left, -right, -both   the cases of orElse, as code has them
@@ -263,6 +263,9 @@ elsewhere k Ns = take k Ns ++ drop (suc k) Ns
 -- the number at k is not 0, and stands nowhere else; others may stand twice, as 1 in 1, 2, 1, 3, where 2 and 3 stand once
 abbrev pub standsOnce : ℕ → List ℕ → Bool
 standsOnce k Ns = absent (getD Ns k 0) (0 ∷ elsewhere k Ns)
+
+pub stands-once-figure : let Ns : List ℕ = 1 ∷ 2 ∷ 1 ∷ 3 ∷ [] in (standsOnce 0 Ns ≡ false) × ((standsOnce 1 Ns ≡ true) × ((standsOnce 2 Ns ≡ false) × (standsOnce 3 Ns ≡ true)))
+stands-once-figure = (refl, (refl, (refl, refl)))
 
 -- N is none of the numbers
 abbrev pub Others : ℕ → List ℕ → Type 0

@@ -7,8 +7,9 @@
 --   fired-filled, -balanced, -running
 --                              a firing of a node that is over threshold keeps each of them, of Filled and Running with room
 --   room-of                    a queue that is not full for N_i has room for it
---   balanced-as, filled-as, lacking-as, chosen-as
---                              a state with the same counts and contents has the same balance, what a step needs, 13 and choice
+--   filled-as                  what a step needs says nothing of the clock or the counts
+--   balanced-as, lacking-as, chosen-as
+--                              a state with the same counts and contents has the same balance, 13 and choice
 --   cramped-as                 one with the same contents has the same room
 use mathlib.Core.Path.{_≡_, refl, sym, ap, subst, _∙_}
 use mathlib.Core.Logic.{by-cases}
@@ -111,18 +112,20 @@ room-of c s i e = room-silent c s i .0 (ap (λ (b : Bool). test 12 i b .number) 
 at : {a b : List ℕ} → a ≡ b → (j : ℕ) → getD a j 0 ≡ getD b j 0
 at e j = ap (λ (x : List ℕ). getD x j 0) e
 
--- what a state with the counts and contents of another keeps: its balance, what a step needs, 13 and the choice
-module _ (c : Chain) (u w : Run) (counts : w .counts ≡ u .counts) (held : w .held ≡ u .held) where
-  pub balanced-as : Balanced c u → Balanced c w
-  balanced-as b j l = rw (at counts j, at counts (suc j), at held j) (b j l)
-
-  pub filled-as : Filled c u → length (w .done) ≡ length (u .done) → ((j : ℕ) → j < c .n → doneAt w j < workOf c j) → Filled c w
-  filled-as f deep below = record {
+-- what a step needs says nothing of the clock or the counts: of a state with any others it holds
+module _ (c : Chain) (u w : Run) where
+  pub filled-as : Filled c u → length (w .counts) ≡ 17 → w .held ≡ u .held → length (w .done) ≡ 16 → ((j : ℕ) → j < c .n → doneAt w j < workOf c j) → Filled c w
+  filled-as f wide held deep below = record {
     chain = f .chain;
-    whole = record { counts = ap length counts ∙ f .whole .counts; held = ap length held ∙ f .whole .held; done = deep ∙ f .whole .done };
+    whole = record { counts = wide; held = ap length held ∙ f .whole .held; done = deep };
     within = λ j l. rw (at held j) (f .within j l);
     below = below;
   }
+
+-- a state with the counts and contents of another has its balance, 13 and choice
+module _ (c : Chain) (u w : Run) (counts : w .counts ≡ u .counts) (held : w .held ≡ u .held) where
+  pub balanced-as : Balanced c u → Balanced c w
+  balanced-as b j l = rw (at counts j, at counts (suc j), at held j) (b j l)
 
   pub lacking-as : lacking c w ≡ lacking c u
   unfolding lacking

@@ -241,7 +241,7 @@ module _ {c : Chain} {u : Run} (f : Filled c u) where
     below j l = by-cases (ℕ-discrete i (suc j)) (λ e. rw (e, same-done j l) (less j l e)) (λ ne. below-else i j l ne)
 
     pub works-filled : Filled c (worked u i)
-    works-filled = filled-as c u (worked u i) (worked-counts u i) (worked-held u i) f (worked-deep u i) below
+    works-filled = filled-as c u (worked u i) f (ap length (worked-counts u i) ∙ f .whole .counts) (worked-held u i) (worked-deep u i ∙ f .whole .done) below
 
     pub works-unended : ended c (worked u i) ≡ 0
     works-unended = ended-none c (worked u i) (c .n) below
@@ -260,7 +260,9 @@ module _ {c : Chain} {u : Run} (f : Filled c u) where
     works-ends = ap (finish c (worked u (suc j))) works-ended
 
     pub cleared-filled : Filled c (withDone (worked u (suc j)) j 0)
-    cleared-filled = filled-as c u (withDone (worked u (suc j)) j 0) (worked-counts u (suc j)) (worked-held u (suc j)) f (length-set (worked u (suc j) .done) j 0 ∙ worked-deep u (suc j)) low
+    cleared-filled =
+        filled-as c u (withDone (worked u (suc j)) j 0) f (ap length (worked-counts u (suc j)) ∙ f .whole .counts) (worked-held u (suc j))
+        (length-set (worked u (suc j) .done) j 0 ∙ worked-deep u (suc j) ∙ f .whole .done) low
       where
         low : (k : ℕ) → k < c .n → doneAt (withDone (worked u (suc j)) j 0) k < workOf c k
         low k m = by-cases (ℕ-discrete k j)

@@ -116,8 +116,8 @@ quiet-run {c} k T {s} f z i w rests less =
 -- and the state after them is filled
 pub quiet-filled : {c : Chain} {s : Run} (k : ℕ) → Filled c s → (i : ℕ) → ((j : ℕ) → i ≡ suc j → doneAt s j + k < workOf c j) → Filled c (workedFor s i k)
 unfolding workedIn
-quiet-filled {c} {s} k f zero less = filled-as c s (workedFor s 0 k) refl refl f refl (f .below)
-quiet-filled {c} {s} k f (suc j) less = filled-as c s (workedFor s (suc j) k) refl refl f (length-set (s .done) j _) below
+quiet-filled {c} {s} k f zero less = filled-as c s (workedFor s 0 k) f (f .whole .counts) refl (f .whole .done) (f .below)
+quiet-filled {c} {s} k f (suc j) less = filled-as c s (workedFor s (suc j) k) f (f .whole .counts) refl (length-set (s .done) j _ ∙ f .whole .done) below
   where
     below : (m : ℕ) → m < c .n → doneAt (workedFor s (suc j) k) m < workOf c m
     below m l = by-cases (ℕ-discrete m j)

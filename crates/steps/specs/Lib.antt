@@ -5,5 +5,6 @@ pub mod Passed
 pub mod Begun
 pub mod Completed
 pub mod Ticked
+pub mod Told
 pub mod Jumped
 pub mod Dued
