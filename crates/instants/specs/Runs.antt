@@ -1,7 +1,8 @@
 -- A deadline run by instants and by ticks (01, Firing).
 --   onward-clean, -none, -then what follows a clean state, nothing that follows, and one thing after the other
---   clean-or, onward-goes, onward-stops
---                              an outcome is clean or not; what follows one that is, and nothing follows one that is not
+--   unclean-overflow, -undated no outcome that ends a run is clean
+--   clean-or, onward-goes, onward-stops, onward-cases
+--                              an outcome is clean or not; what follows one that is, nothing follows one that is not, and what goes on was clean
 --   ticks-none, ticks-suc      no tick, and one more
 --   instants-ticks             instants are the effect of a firing that is finished, and then ticks
 --   ticks-more, ticks-last     a+b ticks are a ticks, carried on for b, and so for one

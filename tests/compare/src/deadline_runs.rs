@@ -1,10 +1,12 @@
 //! Chains and ticks to compare the deadline run on: runs of every length and load, runs that end at
-//! an overflow or without a deadline and those a tick shorter, refused ones, and a few as long as can
-//! be.
+//! an overflow or without a deadline and those a tick shorter, runs around the end of a long
+//! stretch of quiet ticks, refused ones, and a few as long as can be.
 
 use crate::analysed;
 use crate::records::littered;
 use crate::runs::{littered_if_valid, tighten};
+use crate::sparse::{cut, relay, sparse};
+use crate::stretches::{very_long_stretches, Next, Stretch, LONG};
 use compare::chains::{any_word, within};
 use compare::loaded::accepted;
 use compare::random::Random;
@@ -17,6 +19,25 @@ use yardstick::{
 
 /// The most ticks of a run that is not meant to be long.
 const FEW: u32 = 2_000;
+
+/// The ticks of a run on a sparse chain within which it comes to the stretch at whose end it may
+/// end, and the most times that such a chain has the ticks of a brisk one.
+const MANY: usize = 20_000;
+const MANY_TIMES: u32 = 300;
+
+/// The periods within which a long stretch is looked for.
+const PERIODS: u32 = 6;
+
+/// The most queues of a chain with a long stretch that ends in a given way, and the ways in which
+/// one that is looked for may end.
+const FEW_QUEUES: usize = 4;
+const WAYS: [Next; 5] = [
+    Next::SourceWhileIdle,
+    Next::SourceAndGoesOn,
+    Next::SourceAndTakenOver,
+    Next::Finished,
+    Next::Overflow,
+];
 
 /// The runs of each kind at each node and each queue, for every n.
 const REPEATS: usize = 3;
@@ -40,12 +61,14 @@ pub fn any(random: &mut Random, n: usize) -> Request {
         2 => too_long(random, n),
         3..=5 => ending(random, n),
         6 => slow(random, n),
+        7 => quiet(random, n),
         _ => small(random, n),
     }
 }
 
-/// Runs that end without a deadline at every node that can lack one, and runs with a capacity below
-/// the minimum at every queue, for every n.
+/// Runs that end without a deadline at every node that can lack one, runs with a capacity below the
+/// minimum at every queue, and runs around the end of a long stretch of quiet ticks in which the
+/// last node is at work, for every n; and runs with the longest stretches.
 pub fn limits(random: &mut Random) -> Vec<Request> {
     let mut requests = Vec::new();
     for n in 1..=MAX_QUEUES {
@@ -57,6 +80,30 @@ pub fn limits(random: &mut Random) -> Vec<Request> {
                 ticks,
             }));
         }
+        let (chain, stretch) = with_stretch(random, n, |stretch| stretch.worker == Some(n));
+        requests.extend(around(random, &chain, stretch.last.clock));
+    }
+    for work in [1, MAX_TICKS - 1, MAX_TICKS] {
+        requests.extend(longest_stretch(work));
+    }
+    requests
+}
+
+/// Runs around the end of a long stretch of quiet ticks on chains of few queues: for each way in
+/// which a stretch ends, and with work that was kept.
+pub fn stretched(random: &mut Random) -> Vec<[Request; 3]> {
+    let mut requests = Vec::new();
+    for n in 2..=FEW_QUEUES {
+        for next in WAYS {
+            let (chain, stretch) = with_stretch(random, n, |stretch| stretch.next == next);
+            requests.push(around(random, &chain, stretch.last.clock));
+        }
+        for (chain, end) in finished_near_source(random, n) {
+            requests.push(around(random, &chain, end));
+        }
+        let kept = |stretch: &Stretch| stretch.resumed && stretch.next == Next::Finished;
+        let (chain, stretch) = with_stretch(random, n, kept);
+        requests.push(around(random, &chain, stretch.last.clock));
     }
     requests
 }
@@ -142,6 +189,83 @@ fn slow(random: &mut Random, n: usize) -> Request {
         ticks: few_ticks(random),
         chain: littered(random, chain),
     }
+}
+
+/// A run on a sparse chain, in most cases to the end of a stretch of quiet ticks or next to it.
+fn quiet(random: &mut Random, n: usize) -> Request {
+    let times = within(random, 2..=MANY_TIMES);
+    let chain = sparse(random, n, times);
+    let at = random.below(MANY) as u32;
+    let ticks = match random.below(4) {
+        0 => at,
+        _ => (stretch_end(&chain, at) + random.pick(&[0, 1, 2])).saturating_sub(1),
+    };
+    Request {
+        chain: littered(random, chain),
+        ticks,
+    }
+}
+
+/// The end of the stretch of quiet ticks that an instant of a run is in: the next firing of the
+/// source, or the tick in which the node at work fires, if that is earlier.
+fn stretch_end(chain: &Chain, at: u32) -> u32 {
+    let [last, next] = [at, at + 1].map(|ticks| deadline_run(chain, ticks).run);
+    let source = at.next_multiple_of(chain.period);
+    match (0..chain.n as usize).find(|&i| next.done[i] > last.done[i]) {
+        Some(i) => source.min(at + chain.work[i] - next.done[i]),
+        None => source,
+    }
+}
+
+/// A chain of n queues in whose run there is a wanted stretch that is very long, and the last of
+/// these.
+fn with_stretch(
+    random: &mut Random,
+    n: usize,
+    wanted: impl Fn(&Stretch) -> bool,
+) -> (Chain, Stretch) {
+    loop {
+        let slow = 1 + random.below(n);
+        let chain = relay(random, n, slow);
+        let stretches = very_long_stretches(&chain, PERIODS * chain.period);
+        if let Some(stretch) = stretches.into_iter().rfind(&wanted) {
+            return (chain, stretch);
+        }
+    }
+}
+
+/// Two chains of n queues, each with the ticks up to the end of a long stretch after which the node
+/// at work fires: a tick before the source, and as the source does.
+fn finished_near_source(random: &mut Random, n: usize) -> [(Chain, u32); 2] {
+    let goes_on = |stretch: &Stretch| stretch.next == Next::SourceAndGoesOn;
+    loop {
+        let (chain, Stretch { last, .. }) = with_stretch(random, n, goes_on);
+        if let Some([before, at_once]) = cut(&chain, &last) {
+            return [(before, last.clock - 1), (at_once, last.clock)];
+        }
+    }
+}
+
+/// Runs of as many ticks as can be and of one less, in which the source fires once, on a chain of
+/// one queue whose node has a given execution time.
+fn longest_stretch(work: u32) -> [Request; 2] {
+    let mut chain = Chain {
+        n: 1,
+        period: MAX_TICKS,
+        ..Chain::default()
+    };
+    chain.queues[0] = queue_of([1, 1, 1, 0]);
+    chain.work[0] = work;
+    [MAX_TICKS - 1, MAX_TICKS].map(|ticks| Request { chain, ticks })
+}
+
+/// Runs around the end of a long stretch: inside it, to its end, and a tick longer.
+fn around(random: &mut Random, chain: &Chain, end: u32) -> [Request; 3] {
+    let inside = end - within(random, 1..=LONG);
+    [inside, end, end + 1].map(|ticks| Request {
+        chain: littered(random, *chain),
+        ticks,
+    })
 }
 
 /// A number of ticks that is small more often than not.

@@ -4,6 +4,7 @@ use crate::deadline_runs::Request;
 use crate::due::indexes;
 use crate::questions::Question;
 use crate::sights::count_all;
+use crate::stretches::{Next, Stretch, NEXT};
 use crate::tally::{Line, Tally};
 use compare::rates::{capacity, minimum, LIMIT};
 use yardstick::{
@@ -40,10 +41,12 @@ const NOT_HAD: [&str; 9] = [
 const KINDS: [&str; 3] = ["clean", "overflowed", "no deadline"];
 
 /// What must be seen of deadline runs that are clean.
-const CLEAN_RUNS: [&str; 12] = [
+const CLEAN_RUNS: [&str; 14] = [
     "0 ticks",
     "1 tick",
     "1000000 ticks",
+    "1000000 ticks, one firing takes all",
+    "1000000 ticks, one firing takes the first",
     "ends before an overflow",
     "ends before no deadline",
     "the sink fires",
@@ -55,11 +58,15 @@ const CLEAN_RUNS: [&str; 12] = [
     "the source would fire at the end",
 ];
 
+/// What must be seen of work in a long stretch that was kept while another node was at work.
+const KEPT: [&str; 2] = ["it goes on", "it is finished"];
+
 /// What must be seen of deadline runs that end before their last tick.
-const ENDED: [&str; 6] = [
+const ENDED: [&str; 7] = [
     "overflowed at the last tick",
     "overflowed before",
     "overflowed by one token",
+    "overflowed after a long stretch",
     "no deadline, the source's step undone",
     "no deadline, no step of the source",
     "no deadline of a later firing",
@@ -203,6 +210,10 @@ pub struct DeadlineRuns {
     ran: Tally,
     too_small: Tally,
     lacking: Tally,
+    workers: Tally,
+    in_stretch: Tally<Next>,
+    past_stretch: Tally<Next>,
+    kept: Tally<&'static str>,
     clean: Tally<&'static str>,
     ended: Tally<&'static str>,
     refused: Tally<&'static str>,
@@ -217,7 +228,7 @@ impl DeadlineRuns {
                 self.ran.count(chain.n);
                 self.kinds.count(kind_name(answer.kind));
                 match answer.kind {
-                    CLEAN => self.count_clean(chain, *ticks, &answer.run),
+                    CLEAN => self.count_clean(chain, *ticks, answer),
                     _ => self.count_ended(chain, *ticks, answer),
                 }
             }
@@ -227,12 +238,13 @@ impl DeadlineRuns {
     }
 
     /// Counts a run that is clean.
-    fn count_clean(&mut self, chain: &Chain, ticks: u32, run: &Run) {
+    fn count_clean(&mut self, chain: &Chain, ticks: u32, answer: &OutcomeRun) {
         let n = chain.n as usize;
+        let run = &answer.run;
         let queues = &chain.queues[..n];
         let analysis = analyse(chain).analysis;
         let shorter = deadline_run(chain, ticks.saturating_sub(1)).run;
-        let longer = deadline_run(chain, ticks + 1).kind;
+        let longer = deadline_run(chain, ticks + 1);
         let capacities = [
             queues.iter().any(|queue| queue.capacity == 0),
             queues.iter().any(|queue| queue.capacity == minimum(queue)),
@@ -242,8 +254,10 @@ impl DeadlineRuns {
             ticks == 0,
             ticks == 1,
             ticks == MAX_TICKS,
-            longer == OVERFLOWED,
-            longer == NO_DEADLINE,
+            ticks == MAX_TICKS && chain.work[0] == ticks && run.counts[1] == 1,
+            ticks == MAX_TICKS && chain.work[0] == 1 && run.counts[1] == 1,
+            longer.kind == OVERFLOWED,
+            longer.kind == NO_DEADLINE,
             run.counts[n] > 0,
             run.done[..n].iter().any(|&done| done > 0),
             analysis.busy == analysis.cycle,
@@ -253,6 +267,25 @@ impl DeadlineRuns {
             ticks.is_multiple_of(chain.period),
         ];
         count_all(&mut self.clean, CLEAN_RUNS, marks);
+        if let Some(stretch) = Stretch::up_to(chain, run, &longer) {
+            self.workers.count(stretch.worker.unwrap_or(0) as u32);
+            self.in_stretch.count(stretch.next);
+            let goes_on = stretch.next == Next::StaysAtWork;
+            count_all(&mut self.kept, [KEPT[0]], [stretch.resumed && goes_on]);
+        }
+        if run.counts != shorter.counts {
+            self.count_past_stretch(chain, &shorter, answer);
+        }
+    }
+
+    /// Counts a clean run whose last tick is no quiet one, given the state before that, if it comes
+    /// past a long stretch.
+    fn count_past_stretch(&mut self, chain: &Chain, before: &Run, answer: &OutcomeRun) {
+        if let Some(stretch) = Stretch::up_to(chain, before, answer) {
+            self.past_stretch.count(stretch.next);
+            let finished = stretch.next == Next::Finished;
+            count_all(&mut self.kept, [KEPT[1]], [stretch.resumed && finished]);
+        }
     }
 
     /// Counts a run that overflows or lacks a deadline.
@@ -265,10 +298,12 @@ impl DeadlineRuns {
         }
         let queue = &chain.queues[0];
         let full = answer.run.held[0] + queue.produce;
+        let stretch = Stretch::up_to(chain, &answer.run, answer);
         let marks = [
             overflowed && ticks == answer.tick + 1,
             overflowed && ticks > answer.tick + 1,
             overflowed && full == analyse(chain).analysis.queues[0].capacity + 1,
+            overflowed && stretch.is_some(),
             lacks && sourced,
             lacks && !sourced,
             lacks && answer.run.counts[answer.at as usize] > 0,
@@ -295,6 +330,7 @@ impl DeadlineRuns {
     /// What was seen, and what was not though it must be. In a run within the limit no index of N_1
     /// comes near its own.
     pub fn lines(&self) -> Vec<Line> {
+        let [_, _, ended @ .., _] = NEXT;
         vec![
             self.numbers.line("deadline run", [0, 2, 4, 5, 6, 7, 8, 9]),
             self.kinds.line("deadline run, outcome", kind_names()),
@@ -304,6 +340,15 @@ impl DeadlineRuns {
                 .line("deadline run, 8, queue", 0..MAX_QUEUES as u32),
             self.lacking
                 .line("deadline run, no deadline, node", 2..=MAX_QUEUES as u32),
+            self.workers.line(
+                "deadline run, node at work in a long stretch, 0 for none",
+                0..=MAX_QUEUES as u32,
+            ),
+            self.in_stretch
+                .line("deadline run, ends in a long stretch, a tick more", NEXT),
+            self.past_stretch
+                .line("deadline run, ends a tick past a long stretch", ended),
+            self.kept.line("deadline run, kept work", KEPT),
             self.clean.line("deadline run, clean", CLEAN_RUNS),
             self.ended.line("deadline run, ended", ENDED),
             self.refused.line("deadline run, 8 or 9", REFUSED_RUNS),

@@ -10,8 +10,11 @@ use crate::tally::Tally;
 use compare::rates::capacity;
 use yardstick::{Chain, OutcomeRun, Run, CLEAN, NO_DEADLINE, OVERFLOWED};
 
+/// The instants in a row without a firing that make a quiet stretch.
+const QUIET: usize = 4;
+
 /// What must be seen of the instants of runs.
-pub const SIGHTS: [&str; 9] = [
+pub const SIGHTS: [&str; 13] = [
     "a queue holds its capacity",
     "no node waits",
     "a firing takes effect",
@@ -21,12 +24,18 @@ pub const SIGHTS: [&str; 9] = [
     "clean to the end",
     "overflowed",
     "no deadline",
+    "the source ends a quiet stretch in which no node works",
+    "the source ends a quiet stretch in which a node works",
+    "a firing ends a quiet stretch",
+    "both end a quiet stretch",
 ];
 
-/// A chain that is run, the node that worked last, and what was seen so far.
+/// A chain that is run, the node that worked last, how many instants have passed since the last
+/// firing, and what was seen so far.
 struct Instants<'a> {
     chain: &'a Chain,
     worker: Option<usize>,
+    quiet: usize,
     seen: &'a mut Tally<&'static str>,
 }
 
@@ -63,6 +72,7 @@ fn watch(
     let mut instants = Instants {
         chain,
         worker: None,
+        quiet: 0,
         seen,
     };
     if answers[0] != OutcomeRun::default() {
@@ -143,10 +153,31 @@ impl Instants<'_> {
             first.count() > 1,
             waiting.last().map(|(node, _)| *node) > worker,
         ];
-        let [_, sights @ .., _, _, _] = SIGHTS;
+        let [_, idle, effect, interrupted, several, nearer, ..] = SIGHTS;
+        let sights = [idle, effect, interrupted, several, nearer];
         count_all(self.seen, sights, marks);
+        let source = after.counts[0] != before.counts[0];
+        self.count_quiet(source, fired && worker == self.worker);
+        self.quiet = if source || fired { 0 } else { self.quiet + 1 };
         self.worker = worker;
         Ok(())
+    }
+
+    /// Counts an instant at which the source fires, or the node that worked before, if it ends a
+    /// quiet stretch.
+    fn count_quiet(&mut self, source: bool, fired: bool) {
+        if self.quiet < QUIET {
+            return;
+        }
+        let idle = self.worker.is_none();
+        let marks = [
+            source && idle,
+            source && !idle && !fired,
+            fired && !source,
+            fired && source,
+        ];
+        let [.., idle, works, firing, both] = SIGHTS;
+        count_all(self.seen, [idle, works, firing, both], marks);
     }
 
     /// Whether a run that was in a state ends there as it must.

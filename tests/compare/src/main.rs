@@ -22,6 +22,8 @@ mod run_sights;
 mod runs;
 mod sights;
 mod simulated;
+mod sparse;
+mod stretches;
 mod tally;
 mod tick_sights;
 mod ticks;
@@ -31,7 +33,6 @@ use analysed::Request;
 use compare::loaded::accepted;
 use compare::random::Random;
 use compare::small::small;
-use compare::timed::brisk;
 use comparison::{decimal, due_answers, hex, Failure};
 use deadline_runs::without_deadline;
 use deadline_sights::{DeadlineRuns, Questions};
@@ -42,6 +43,7 @@ use questions::Question;
 use records::Record;
 use run_sights::{Firings, Runs};
 use sights::{Analyses, Reports};
+use sparse::brisk_or_sparse;
 use std::env;
 use std::ffi::OsString;
 use std::process::ExitCode;
@@ -161,6 +163,7 @@ impl Run {
         self.compare_figures()?;
         self.compare_questions()?;
         self.compare_deadline_runs()?;
+        self.compare_stretched_runs()?;
         self.compare_ticks()?;
         self.compare_each_length()?;
         self.watch_instants()?;
@@ -416,6 +419,20 @@ impl Run {
         self.settle(result, || deadline_run_input(request))
     }
 
+    /// Compares deadline runs around the end of long stretches of quiet ticks, and those past it
+    /// with as many ticks.
+    fn compare_stretched_runs(&mut self) -> Result<(), Lost> {
+        for requests in deadline_runs::stretched(&mut self.random) {
+            for request in &requests {
+                self.compare_deadline_run(request)?;
+            }
+            let [.., past] = &requests;
+            let result = comparison::ticked(&mut self.library, past);
+            self.settle(result, || deadline_run_input(past))?;
+        }
+        Ok(())
+    }
+
     /// Compares the longest deadline runs, and each with as many ticks.
     fn compare_long_runs(&mut self) -> Result<(), Lost> {
         for request in deadline_runs::long(&mut self.random) {
@@ -429,7 +446,7 @@ impl Run {
     /// Compares the deadline runs of each length with as many ticks.
     fn compare_each_length(&mut self) -> Result<(), Lost> {
         for i in 0..EACH_LENGTH {
-            let chain = brisk(&mut self.random, 1 + i % MAX_QUEUES);
+            let chain = brisk_or_sparse(&mut self.random, 1 + i % MAX_QUEUES);
             let most = self.random.below(LENGTHS) as u32;
             let result = comparison::each_length(&mut self.library, &chain, most);
             self.settle(result, || {
@@ -442,7 +459,7 @@ impl Run {
     /// Watches the instants of deadline runs, and of ticks that come to a node without a deadline.
     fn watch_instants(&mut self) -> Result<(), Lost> {
         for i in 0..WATCHED_INSTANTS {
-            let chain = brisk(&mut self.random, 1 + i % MAX_QUEUES);
+            let chain = brisk_or_sparse(&mut self.random, 1 + i % MAX_QUEUES);
             let most = self.random.below(LENGTHS) as u32;
             let result = instants::watch_runs(&mut self.library, &mut self.instants, &chain, most);
             self.settle(result, || {

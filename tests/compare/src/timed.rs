@@ -102,7 +102,12 @@ fn slow_pair(random: &mut Random, rate: Rate, ticks: u64) -> [u32; 2] {
 
 /// A queue of a produce and a consume with a capacity of 0, of the minimum, or above it.
 pub fn roomy(random: &mut Random, pair: [u32; 2]) -> Queue {
-    let mut queue = bare(random, pair, MOST_TOKENS);
+    let queue = bare(random, pair, MOST_TOKENS);
+    with_room(random, queue)
+}
+
+/// A queue with a capacity of 0, of the minimum, or above it.
+pub fn with_room(random: &mut Random, mut queue: Queue) -> Queue {
     let minimum = minimum(&queue);
     queue.capacity = match random.below(6) {
         0 | 1 => 0,
