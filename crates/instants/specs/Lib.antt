@@ -4,6 +4,7 @@ pub mod Checks
 pub mod Refusals
 pub mod Lacking
 pub mod Best
+pub mod Follows
 pub mod Runs
 pub mod Filled
 pub mod Kept

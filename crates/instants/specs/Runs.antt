@@ -6,15 +6,14 @@
 --   ticks-none, ticks-suc      no tick, and one more
 --   instants-ticks             instants are the effect of a firing that is finished, and then ticks
 --   ticks-more, ticks-last     a+b ticks are a ticks, carried on for b, and so for one
-use mathlib.Core.Path.{_≡_, refl, sym, ap, _∙_}
+use mathlib.Core.Path.{_≡_, refl, ap, _∙_}
 use mathlib.Core.Logic.{_⊎_, inl, inr}
 use Prim.Native.Nat.{ℕ, zero, suc, _+_}
-use native.Mathlib.Nat.{zero-add, suc-add}
-use native.Mathlib.Numerals.{add-one}
 use native.Mathlib.Omega.{arith}
 use Rattle.chain.specs.declared.Chain.{Chain}
 use Rattle.state.specs.declared.Run.{Run}
 use Rattle.instants.specs.Steps.{kindOf, clean, goes, onward, finished, advanced, tick, ticks, instants}
+use Rattle.instants.specs.Follows.{Follows, Many, Instants, many-more, many-last, instants-many}
 use Rattle.instants.specs.declared.Outcome.{Outcome}
 use Rattle.instants.specs.declared.Outcome.the-variants.{Clean, Overflowed, NoDeadline}
 use Rattle.instants.specs.declared.Ticked.{Ticked}
@@ -81,6 +80,10 @@ onward-cases r f = by (r .outcome)
     by (Overflowed t q) h = absurd (unclean-overflow h)
     by (NoDeadline t i) h = absurd (unclean-undated h)
 
+-- what follows one thing after the other
+follows : Follows clean onward
+follows = record { goes = onward-clean; none = onward-none; then = onward-then }
+
 module _ (c : Chain) where
   pub ticks-none : (s : Run) → ticks c 0 s ≡ clean s
   unfolding ticks
@@ -90,46 +93,18 @@ module _ (c : Chain) where
   unfolding ticks
   ticks-suc T s = refl
 
-  tick-is : (s : Run) → tick c s ≡ onward (advanced c s) (finished c)
-  unfolding tick
-  tick-is s = refl
-
-  instants-suc : (T : ℕ) (s : Run) → instants c (suc T) s ≡ onward (onward (finished c s) (advanced c)) (instants c T)
-  unfolding instants
-  instants-suc T s = refl
-
-  instants-none : (s : Run) → instants c 0 s ≡ finished c s
-  unfolding instants
-  instants-none s = refl
+  many : Many clean onward (tick c) (ticks c)
+  many = record { none = ticks-none; more = ticks-suc }
 
   -- 01's instants are the effect of what is finished, and then tick after tick
   pub instants-ticks : (T : ℕ) (s : Run) → instants c T s ≡ onward (finished c s) (ticks c T)
-  instants-ticks zero s = instants-none s ∙ sym (onward-none (finished c s)) ∙ ap (onward (finished c s)) (λ i u. sym (ticks-none u) i)
-  instants-ticks (suc T) s =
-      instants-suc T s
-      ∙ onward-then (finished c s) (advanced c) (instants c T)
-      ∙ ap (onward (finished c s)) (λ i u. step (instants-ticks T) u i)
-    where
-      step : ((v : Run) → instants c T v ≡ onward (finished c v) (ticks c T)) → (u : Run) → onward (advanced c u) (instants c T) ≡ ticks c (suc T) u
-      step each u =
-          ap (onward (advanced c u)) (λ i v. each v i)
-          ∙ sym (onward-then (advanced c u) (finished c) (ticks c T))
-          ∙ ap (λ (r : Ticked). onward r (ticks c T)) (sym (tick-is u))
-          ∙ sym (ticks-suc T u)
+  unfolding instants tick
+  instants-ticks = instants-many follows many (record { last = λ s. refl; more = λ T s. refl }) (λ s. refl)
 
   -- a+b ticks are a ticks, carried on for b
   pub ticks-more : (a b : ℕ) (s : Run) → ticks c (a + b) s ≡ onward (ticks c a s) (ticks c b)
-  ticks-more zero b s = ap (λ (T : ℕ). ticks c T s) (zero-add b) ∙ sym (onward-clean s (ticks c b)) ∙ ap (λ (r : Ticked). onward r (ticks c b)) (sym (ticks-none s))
-  ticks-more (suc a) b s =
-      ap (λ (T : ℕ). ticks c T s) (suc-add a b)
-      ∙ ticks-suc (a + b) s
-      ∙ ap (onward (tick c s)) (λ i u. ticks-more a b u i)
-      ∙ sym (onward-then (tick c s) (ticks c a) (ticks c b))
-      ∙ ap (λ (r : Ticked). onward r (ticks c b)) (sym (ticks-suc a s))
+  ticks-more = many-more follows many
 
   -- so T+1 ticks are T ticks, carried on for one
   pub ticks-last : (T : ℕ) (s : Run) → ticks c (suc T) s ≡ onward (ticks c T s) (tick c)
-  ticks-last T s = ap (λ (a : ℕ). ticks c a s) (sym (add-one T)) ∙ ticks-more T 1 s ∙ ap (onward (ticks c T s)) (λ i u. once u i)
-    where
-      once : (u : Run) → ticks c 1 u ≡ tick c u
-      once u = ticks-suc 0 u ∙ ap (onward (tick c u)) (λ i v. ticks-none v i) ∙ onward-none (tick c u)
+  ticks-last = many-last follows many

@@ -1,4 +1,6 @@
 -- The checks of a run state, 17, and of a manual firing, 9, 11 and 12 (01, Numbers a call may refuse with).
+--   brokenUnless balanced q e x d
+--                              whether a queue has one of 17's reasons, by whether its balance holds
 --   broken q e a b x d         whether a queue has one of 17's reasons: q its row, e its consumer's execution time, a and b the counts of its
 --                              producer and its consumer, x what it holds, d its consumer's work done
 --   stateTest c s i, stateCheck c s
@@ -52,10 +54,14 @@ use Rattle.state.specs.State.{countAt, heldAt, doneAt}
 use Rattle.state.specs.Fired.{Balance, Over, Room}
 use Rattle.state.specs.declared.Run.{Run}
 
+-- a queue's balance is broken, it holds more than its capacity, or its consumer has work done of e or more
+abbrev pub brokenUnless : Bool → Queue → ℕ → ℕ → ℕ → Bool
+brokenUnless balanced q e x d = not balanced || ltb (capacityOf q) x || leb e d
+
 -- "breaks the balance (p × producer's count − c × consumer's count is not what is held), passes a capacity, or has work done of e or more"
 unfoldable pub broken : Queue → ℕ → ℕ → ℕ → ℕ → ℕ → Bool
 unfolding capacity least
-broken q e a b x d = not (eqb (start q + q .produce * a) (x + q .consume * b)) || ltb (capacityOf q) x || leb e d
+broken q e a b x d = brokenUnless (eqb (start q + q .produce * a) (x + q .consume * b)) q e x d
 
 -- 17 of one queue, place the queue, "for work done the one feeding the node"
 abbrev pub stateTest : Chain → Run → ℕ → Refusal

@@ -11,14 +11,16 @@
 --                            its output queue has p more and its input queue c less, said with no minus; every other queue is as it was
 --   counts-, holds-length    a firing keeps the number of slots
 --   Balance c s j            what was put into queue j is what it holds and what was taken out
+--   BalanceWith c s j x      and x tokens besides
 --   Slots n s, slots-kept    the state has a slot for each node and queue, and a firing keeps them
---   balance-kept             a firing keeps each queue's balance
+--   balance-with-kept, balance-kept
+--                            a firing keeps each queue's balance
 use mathlib.Core.Path.{_≡_, refl, sym, ap, _∙_}
 use mathlib.Core.Bool.{Bool, true, false, cond}
 use mathlib.Core.Logic.{_≢_, by-cases}
 use mathlib.Core.List.{List}
 use Prim.Native.Nat.{ℕ, zero, suc, _+_, _-_, _*_, _≤_, _<_}
-use native.Mathlib.Nat.{sub-add-cancel}
+use native.Mathlib.Nat.{add-zero, sub-add-cancel}
 use native.Mathlib.Decide.{ℕ-discrete}
 use native.Mathlib.Omega.{arith}
 use lib.Dec.{ltb}
@@ -135,15 +137,19 @@ module _ (c : Chain) (s : Run) where
 abbrev pub Balance : Chain → Run → ℕ → Type 0
 Balance c s j = start (rowOf c j) + rowOf c j .produce * countAt s j ≡ heldAt s j + rowOf c j .consume * countAt s (suc j)
 
--- the arithmetic of one queue: its producer fires, its consumer fires, neither does
-put-balance : (s p c N M x N′ M′ x′ : ℕ) → N′ ≡ N + 1 → M′ ≡ M → x′ ≡ x + p → s + p * N ≡ x + c * M → s + p * N′ ≡ x′ + c * M′
-put-balance s p c N M x N′ M′ x′ e f g b = rw (e, f, g) (omega (arith, b))
+-- the same with x tokens that were put in and are no more
+abbrev pub BalanceWith : Chain → Run → ℕ → ℕ → Type 0
+BalanceWith c s j x = start (rowOf c j) + rowOf c j .produce * countAt s j ≡ heldAt s j + rowOf c j .consume * countAt s (suc j) + x
 
-take-balance : (s p c N M x N′ M′ x′ : ℕ) → N′ ≡ N → M′ ≡ M + 1 → x′ + c ≡ x → s + p * N ≡ x + c * M → s + p * N′ ≡ x′ + c * M′
-take-balance s p c N M x N′ M′ x′ e f g b = rw (e, f) (omega (arith, b, g))
+-- the arithmetic of one queue, of which l tokens are no more: its producer fires, its consumer fires, neither does
+put-balance : (s p c N M x l N′ M′ x′ : ℕ) → N′ ≡ N + 1 → M′ ≡ M → x′ ≡ x + p → s + p * N ≡ x + c * M + l → s + p * N′ ≡ x′ + c * M′ + l
+put-balance s p c N M x l N′ M′ x′ e f g b = rw (e, f, g) (omega (arith, b))
 
-keep-balance : (s p c N M x N′ M′ x′ : ℕ) → N′ ≡ N → M′ ≡ M → x′ ≡ x → s + p * N ≡ x + c * M → s + p * N′ ≡ x′ + c * M′
-keep-balance s p c N M x N′ M′ x′ e f g b = rw (e, f, g) b
+take-balance : (s p c N M x l N′ M′ x′ : ℕ) → N′ ≡ N → M′ ≡ M + 1 → x′ + c ≡ x → s + p * N ≡ x + c * M + l → s + p * N′ ≡ x′ + c * M′ + l
+take-balance s p c N M x l N′ M′ x′ e f g b = rw (e, f) (omega (arith, b, g))
+
+keep-balance : (s p c N M x l N′ M′ x′ : ℕ) → N′ ≡ N → M′ ≡ M → x′ ≡ x → s + p * N ≡ x + c * M + l → s + p * N′ ≡ x′ + c * M′ + l
+keep-balance s p c N M x l N′ M′ x′ e f g b = rw (e, f, g) b
 
 -- what a state has room for: a count for each node and a slot for each queue
 pub record Slots (n : ℕ) (s : Run) : Type 0 where
@@ -153,10 +159,14 @@ pub record Slots (n : ℕ) (s : Run) : Type 0 where
 pub slots-kept : {n : ℕ} (c : Chain) (s : Run) (i : ℕ) → Slots n s → Slots n (fired c s i)
 slots-kept c s i k = record { counts = omega (arith, k .counts, counts-length c s i); held = omega (arith, k .held, holds-length c s i) }
 
-pub balance-kept : (c : Chain) (s : Run) (i j : ℕ) → Slots (c .n) s → j < c .n → (i ≡ suc j → rowOf c j .consume ≤ heldAt s j) → Balance c s j → Balance c (fired c s i) j
-balance-kept c s i j k l enough b = by-cases (ℕ-discrete j i)
-    (λ e. put-balance _ _ _ _ _ _ _ _ _ (rw e (count-fired c s i (omega (arith, k .counts))))
-    (count-other c s i (suc j) (λ f. omega arith)) (rw e (held-output c s i (omega arith) (omega (arith, k .held)))) b)
-    (λ ne. by-cases (ℕ-discrete (suc j) i)
-    (λ e. take-balance _ _ _ _ _ _ _ _ _ (count-other c s i j ne) (rw e (count-fired c s i (omega (arith, k .counts)))) (rw (← e) (held-input c s j (omega (arith, k .held)) (enough (sym e)))) b)
-    (λ ne′. keep-balance _ _ _ _ _ _ _ _ _ (count-other c s i j ne) (count-other c s i (suc j) ne′) (held-other c s i j ne ne′) b))
+module _ (c : Chain) (s : Run) (i j : ℕ) (k : Slots (c .n) s) (l : j < c .n) (enough : i ≡ suc j → rowOf c j .consume ≤ heldAt s j) where
+  pub balance-with-kept : (x : ℕ) → BalanceWith c s j x → BalanceWith c (fired c s i) j x
+  balance-with-kept x b = by-cases (ℕ-discrete j i)
+      (λ e. put-balance _ _ _ _ _ _ _ _ _ _ (rw e (count-fired c s i (omega (arith, k .counts))))
+      (count-other c s i (suc j) (λ f. omega arith)) (rw e (held-output c s i (omega arith) (omega (arith, k .held)))) b)
+      (λ ne. by-cases (ℕ-discrete (suc j) i)
+      (λ e. take-balance _ _ _ _ _ _ _ _ _ _ (count-other c s i j ne) (rw e (count-fired c s i (omega (arith, k .counts)))) (rw (← e) (held-input c s j (omega (arith, k .held)) (enough (sym e)))) b)
+      (λ ne′. keep-balance _ _ _ _ _ _ _ _ _ _ (count-other c s i j ne) (count-other c s i (suc j) ne′) (held-other c s i j ne ne′) b))
+
+  pub balance-kept : Balance c s j → Balance c (fired c s i) j
+  balance-kept b = balance-with-kept 0 (b ∙ sym (add-zero _)) ∙ add-zero _

@@ -1,0 +1,148 @@
+-- The list of losses (02, Item 2).
+--   longestList                how many entries it may have
+--   loss t q p, noLoss         an entry, and a slot that holds none
+--   emptyLosses                no losses
+--   entryAt l k, entriesOf l   entry k, and the entries in order
+--   noted l t q p              the list with one entry more
+--   lostIn j h, lost l j       the tokens of the entries of h, and of the list, that name queue j
+--   empty-entries              the empty list has none
+--   Listed l, listed-empty     a list of 256 slots, of which no more are entries; the empty list is one
+--   Noted l t q p m            m is l with the entry (t, q, p) more, slot by slot
+--   is-noted                   which is what `noted` makes; listed-noted: and such a list it is again
+--   noted-entries              so the entries are those before, and this one after them
+--   Goes l m                   m's first entries are l's, and from m's last entry on its slots are l's
+--   goes-refl, -trans, goes-noted
+--                              a list goes on from itself, from list to list, and by one entry
+--   lost-append, lost-noted    the tokens of entries one after the other, and with one entry more
+use mathlib.Core.Path.{_≡_, refl, ap, _∙_}
+use mathlib.Core.Logic.{_≢_}
+use mathlib.Core.Bool.{cond}
+use mathlib.Core.List.{List, [], _∷_, _++_}
+use Prim.Native.Nat.{ℕ, _+_, _≤_, _<_}
+use native.Mathlib.Omega.{arith}
+use lib.Dec.{eqb}
+use lib.ListN.{length, getD, set, replicate, length-set, length-replicate}
+use lib.Seq.{getD-set-same, getD-set-other}
+use Rattle.words.specs.Table.{tab, tab-more, tab-alike}
+use Rattle.losses.specs.declared.Loss.{Loss}
+use Rattle.losses.specs.declared.Losses.{Losses}
+
+-- "a list of at most 256 entries"
+abbrev pub longestList : ℕ
+longestList = 256
+
+-- "its tick, queue and tokens"
+abbrev pub loss : ℕ → ℕ → ℕ → Loss
+loss t q p = record { tick = t; queue = q; tokens = p }
+
+abbrev pub noLoss : Loss
+noLoss = loss 0 0 0
+
+abbrev pub emptyLosses : Losses
+emptyLosses = record { count = 0; entries = replicate 256 noLoss }
+
+-- entry k, and the entries in order
+abbrev pub entryAt : Losses → ℕ → Loss
+entryAt l k = getD (l .entries) k noLoss
+
+abbrev pub entriesOf : Losses → List Loss
+entriesOf l = tab (l .count) (entryAt l)
+
+-- "its tick, queue and tokens go into a list"
+abbrev pub noted : Losses → ℕ → ℕ → ℕ → Losses
+noted l t q p = record { count = l .count + 1; entries = set (l .entries) (l .count) (loss t q p) }
+
+-- "the sum of that queue's entries"
+unfoldable pub lostIn : ℕ → List Loss → ℕ
+lostIn j [] = 0
+lostIn j (e ∷ h) = cond (eqb (e .queue) j) (e .tokens) 0 + lostIn j h
+
+abbrev pub lost : Losses → ℕ → ℕ
+lost l j = lostIn j (entriesOf l)
+
+pub empty-entries : entriesOf emptyLosses ≡ []
+unfolding tab
+empty-entries = refl
+
+-- a list of 256 slots, of which no more are entries
+pub record Listed (l : Losses) : Type 0 where
+  pub long : length (l .entries) ≡ 256
+  pub short : l .count ≤ 256
+
+pub listed-empty : Listed emptyLosses
+listed-empty = record { long = length-replicate {A = Loss} 256 noLoss; short = omega arith }
+
+-- m has one entry more than l, at its end; every other slot is as it was
+pub record Noted (l : Losses) (t q p : ℕ) (m : Losses) : Type 0 where
+  pub count : m .count ≡ l .count + 1
+  pub tick : entryAt m (l .count) .tick ≡ t
+  pub queue : entryAt m (l .count) .queue ≡ q
+  pub tokens : entryAt m (l .count) .tokens ≡ p
+  pub others : (k : ℕ) → k ≢ l .count → entryAt m k ≡ entryAt l k
+  pub long : length (m .entries) ≡ length (l .entries)
+
+-- m's first entries are l's, and the slots from m's last entry on are as they were
+pub record Goes (l m : Losses) : Type 0 where
+  pub more : l .count ≤ m .count
+  pub before : (k : ℕ) → k < l .count → entryAt m k ≡ entryAt l k
+  pub behind : (k : ℕ) → m .count ≤ k → entryAt m k ≡ entryAt l k
+  pub long : length (m .entries) ≡ length (l .entries)
+
+pub goes-refl : (l : Losses) → Goes l l
+goes-refl l = record { more = omega arith; before = λ k h. refl; behind = λ k h. refl; long = refl }
+
+pub goes-trans : {l m n : Losses} → Goes l m → Goes m n → Goes l n
+goes-trans a b = record {
+  more = omega (arith, a .more, b .more);
+  before = λ k h. b .before k (omega (arith, a .more)) ∙ a .before k h;
+  behind = λ k h. b .behind k h ∙ a .behind k (omega (arith, b .more));
+  long = b .long ∙ a .long;
+}
+
+module _ {l : Losses} (k : Listed l) (room : l .count < 256) (t q p : ℕ) where
+  slot : l .count < length (l .entries)
+  slot = omega (arith, k .long)
+
+  own : entryAt (noted l t q p) (l .count) ≡ loss t q p
+  own = getD-set-same (l .entries) (l .count) (loss t q p) noLoss slot
+
+  other : (i : ℕ) → i ≢ l .count → entryAt (noted l t q p) i ≡ entryAt l i
+  other i ne = getD-set-other (l .entries) (l .count) i (loss t q p) noLoss ne
+
+  pub is-noted : Noted l t q p (noted l t q p)
+  is-noted = record {
+    count = refl;
+    tick = ap (λ (e : Loss). e .tick) own;
+    queue = ap (λ (e : Loss). e .queue) own;
+    tokens = ap (λ (e : Loss). e .tokens) own;
+    others = other;
+    long = length-set (l .entries) (l .count) (loss t q p);
+  }
+
+  pub listed-noted : Listed (noted l t q p)
+  listed-noted = record { long = length-set (l .entries) (l .count) (loss t q p) ∙ k .long; short = omega arith }
+
+  pub noted-entries : entriesOf (noted l t q p) ≡ entriesOf l ++ (loss t q p ∷ [])
+  noted-entries =
+      tab-more (l .count) (entryAt (noted l t q p))
+      ∙ (λ i. tab-alike (l .count) (entryAt (noted l t q p)) (entryAt l) (λ m h. other m (λ e. omega arith)) i ++ (own i ∷ []))
+
+  pub goes-noted : Goes l (noted l t q p)
+  goes-noted = record {
+    more = omega arith;
+    before = λ m h. other m (λ e. omega arith);
+    behind = λ m h. other m (λ e. omega arith);
+    long = length-set (l .entries) (l .count) (loss t q p);
+  }
+
+-- the tokens of entries one after the other
+pub lost-append : (j : ℕ) (g h : List Loss) → lostIn j (g ++ h) ≡ lostIn j g + lostIn j h
+unfolding lostIn
+lost-append j [] h = omega arith
+lost-append j (e ∷ g) h = omega (arith, lost-append j g h)
+
+-- and with one entry more
+pub lost-noted : {l : Losses} → Listed l → l .count < 256 → (t q p j : ℕ) → lost (noted l t q p) j ≡ lost l j + cond (eqb q j) p 0
+unfolding lostIn
+lost-noted {l} k room t q p j =
+    ap (lostIn j) (noted-entries k room t q p) ∙ lost-append j (entriesOf l) (loss t q p ∷ []) ∙ omega arith

@@ -1,0 +1,9 @@
+pub mod Steps
+pub mod Figures
+pub mod Runs
+pub mod Drops
+pub mod Cases
+pub mod Marked
+pub mod Trace
+pub mod Leads
+pub mod Kept
