@@ -7,3 +7,6 @@ pub mod Marked
 pub mod Trace
 pub mod Leads
 pub mod Kept
+pub mod Checks
+pub mod Traced
+pub mod Same

@@ -12,6 +12,11 @@
 --                              11: there is no such node, or it may not fire
 --   cramped c s i, roomCheck c s i
 --                              12: the firing would pass the capacity of the output queue
+--   queueTest, BrokenAt, SteadyAt, FirstBrokenAt
+--                              17 of one queue, its reasons in words and the lowest queue that has one, over the two sides of each queue's balance
+--   queue-silent, -says, queues-exact, -silent, -only
+--                              their laws
+--   putIn, accounted c s i     the two sides of the balance
 --   Broken, Steady             17's reasons in words: the queue has one of them, or none
 --   FirstBroken                the lowest queue that has one
 --   StateSound c s             a state that passes 17
@@ -102,19 +107,67 @@ cramped c s i = ltb i (c .n) && ltb (capacityOf (rowOf c i)) (heldAt s i + rowOf
 abbrev pub roomCheck : Chain → Run → ℕ → Refusal
 roomCheck c s i = test 12 i (cramped c s i)
 
+-- 17 of every queue of a state, over the two sides of each queue's balance
+module _ (c : Chain) (s : Run) (left right : ℕ → ℕ) where
+  -- one queue
+  abbrev pub queueTest : ℕ → Refusal
+  queueTest i = test 17 i (brokenUnless (eqb (left i) (right i)) (rowOf c i) (workOf c i) (heldAt s i) (doneAt s i))
+
+  -- 17's reasons at queue i, one of which is enough
+  abbrev pub BrokenAt : ℕ → Type 0
+  BrokenAt i = ((left i ≢ right i) ⊎ (capacityOf (rowOf c i) < heldAt s i)) ⊎ (workOf c i ≤ doneAt s i)
+
+  -- and none of them
+  abbrev pub SteadyAt : ℕ → Type 0
+  SteadyAt i = ((left i ≡ right i) × (heldAt s i ≤ capacityOf (rowOf c i))) × (doneAt s i < workOf c i)
+
+  -- L is the lowest queue that has one
+  pub record FirstBrokenAt (L : ℕ) : Type 0 where
+    pub queue : L < c .n
+    pub broken : BrokenAt L
+    pub before : (j : ℕ) → j < L → SteadyAt j
+
+  pub queue-silent : (i : ℕ) → Silent (queueTest i) ↔ SteadyAt i
+  queue-silent i = Iff·trans (test-silent 17 i (λ e. omega arith) _) (or-false (or-false (differ-false _ _) (below-false _ _)) (upto-false _ _))
+
+  pub queue-says : (i L : ℕ) → (queueTest i ≡ refused 17 L) ↔ (BrokenAt i × (L ≡ i))
+  queue-says i L = Iff·trans (test-exact 17 L i (λ e. omega arith) _) (Iff·and (or-true (or-true (differ-true _ _) (below-true _ _)) (upto-true _ _)) Iff·rfl)
+
+  pub queues-exact : (L : ℕ) → (first (tab (c .n) queueTest) ≡ refused 17 L) ↔ FirstBrokenAt L
+  queues-exact L = Iff·trans (lowest-is 17 L (λ e. omega arith) queueTest (c .n)) (out, back)
+    where
+      out : Lowest queueTest (c .n) 17 L → FirstBrokenAt L
+      out f =
+          let e = queue-says (f .at) L .0 (f .says) in
+          rw (e .1) (record { queue = f .inside; broken = e .0; before = λ j l. queue-silent j .0 (f .before j l) })
+
+      back : FirstBrokenAt L → Lowest queueTest (c .n) 17 L
+      back f = record { at = L; inside = f .queue; says = queue-says L L .1 (f .broken, refl); before = λ j l. queue-silent j .1 (f .before j l) }
+
+  pub queues-silent : Silent (first (tab (c .n) queueTest)) ↔ ((i : ℕ) → i < c .n → SteadyAt i)
+  queues-silent = Iff·trans (all-silent queueTest (c .n)) (λ h i l. queue-silent i .0 (h i l), λ h i l. queue-silent i .1 (h i l))
+
+  pub queues-only : Only 17 (first (tab (c .n) queueTest))
+  queues-only = only-tab 17 queueTest (λ i. only-test 17 i (brokenUnless (eqb (left i) (right i)) (rowOf c i) (workOf c i) (heldAt s i) (doneAt s i))) (c .n)
+
+-- the two sides of the balance: what a queue started with and "p × producer's count", what is held and "c × consumer's count"
+abbrev pub putIn : Chain → Run → ℕ → ℕ
+putIn c s i = start (rowOf c i) + rowOf c i .produce * countAt s i
+
+abbrev pub accounted : Chain → Run → ℕ → ℕ
+accounted c s i = heldAt s i + rowOf c i .consume * countAt s (suc i)
+
 -- 17's reasons at queue i, one of which is enough
 abbrev pub Broken : Chain → Run → ℕ → Type 0
-Broken c s i = ((Balance c s i → ⊥) ⊎ (capacityOf (rowOf c i) < heldAt s i)) ⊎ (workOf c i ≤ doneAt s i)
+Broken c s = BrokenAt c s (putIn c s) (accounted c s)
 
 -- and none of them
 abbrev pub Steady : Chain → Run → ℕ → Type 0
-Steady c s i = (Balance c s i × (heldAt s i ≤ capacityOf (rowOf c i))) × (doneAt s i < workOf c i)
+Steady c s = SteadyAt c s (putIn c s) (accounted c s)
 
 -- 17 in words: L is the lowest queue that has one
-pub record FirstBroken (c : Chain) (s : Run) (L : ℕ) : Type 0 where
-  pub queue : L < c .n
-  pub broken : Broken c s L
-  pub before : (j : ℕ) → j < L → Steady c s j
+abbrev pub FirstBroken : Chain → Run → ℕ → Type 0
+FirstBroken c s = FirstBrokenAt c s (putIn c s) (accounted c s)
 
 -- every queue of the chain has none
 abbrev pub StateSound : Chain → Run → Type 0
@@ -123,31 +176,23 @@ StateSound c s = (i : ℕ) → i < c .n → Steady c s i
 module _ (c : Chain) (s : Run) where
   pub steady-silent : (i : ℕ) → Silent (stateTest c s i) ↔ Steady c s i
   unfolding broken
-  steady-silent i = Iff·trans (test-silent 17 i (λ e. omega arith) _) (or-false (or-false (differ-false _ _) (below-false _ _)) (upto-false _ _))
+  steady-silent = queue-silent c s (putIn c s) (accounted c s)
 
   pub broken-says : (i L : ℕ) → (stateTest c s i ≡ refused 17 L) ↔ (Broken c s i × (L ≡ i))
   unfolding broken
-  broken-says i L = Iff·trans (test-exact 17 L i (λ e. omega arith) _) (Iff·and (or-true (or-true (differ-true _ _) (below-true _ _)) (upto-true _ _)) Iff·rfl)
+  broken-says = queue-says c s (putIn c s) (accounted c s)
 
   pub state-exact : (L : ℕ) → (stateCheck c s ≡ refused 17 L) ↔ FirstBroken c s L
-  unfolding stateCheck
-  state-exact L = Iff·trans (lowest-is 17 L (λ e. omega arith) (stateTest c s) (c .n)) (out, back)
-    where
-      out : Lowest (stateTest c s) (c .n) 17 L → FirstBroken c s L
-      out f =
-          let e = broken-says (f .at) L .0 (f .says) in
-          rw (e .1) (record { queue = f .inside; broken = e .0; before = λ j l. steady-silent j .0 (f .before j l) })
-
-      back : FirstBroken c s L → Lowest (stateTest c s) (c .n) 17 L
-      back f = record { at = L; inside = f .queue; says = broken-says L L .1 (f .broken, refl); before = λ j l. steady-silent j .1 (f .before j l) }
+  unfolding stateCheck broken
+  state-exact = queues-exact c s (putIn c s) (accounted c s)
 
   pub state-silent : Silent (stateCheck c s) ↔ StateSound c s
-  unfolding stateCheck
-  state-silent = Iff·trans (all-silent (stateTest c s) (c .n)) (λ h i l. steady-silent i .0 (h i l), λ h i l. steady-silent i .1 (h i l))
+  unfolding stateCheck broken
+  state-silent = queues-silent c s (putIn c s) (accounted c s)
 
   pub state-only : Only 17 (stateCheck c s)
-  unfolding stateCheck
-  state-only = only-tab 17 (stateTest c s) (λ i. only-test 17 i (broken (rowOf c i) (workOf c i) (countAt s i) (countAt s (suc i)) (heldAt s i) (doneAt s i))) (c .n)
+  unfolding stateCheck broken
+  state-only = queues-only c s (putIn c s) (accounted c s)
 
   pub over-true : (i : ℕ) → (over c s i ≡ true) ↔ Over c s i
   over-true zero = (λ e. tt, λ e. refl)

@@ -1,0 +1,144 @@
+-- 17 of a state with its list of losses (02, Item 2).
+--   recAccounted c s l i       what queue i holds, what was taken from it, and the sum of its entries
+--   RecBalance c s l i         the balance with them
+--   recQueuesCheck c s l       17 of the queues, and recStateCheck c s l after 17 of the list
+--   RecBroken, RecSteady, FirstRecBroken
+--                              its reasons in words: a queue has one, or none, and the lowest that has one
+--   RecSound c s l             a state and a list that pass it
+--   rec-state-exact, -silent, -only
+--                              it speaks exactly under its condition, is silent exactly elsewhere, and has its own number
+--   Recording c s l            an accepted chain, and a whole state and a list that pass it
+--   recording-is, recording-sound
+--                              what the steps need of them, besides the balance
+--   leads-recording            firings that lead from one leave one, if its work is below e
+--   fresh-recording            a fresh start with an empty list is one
+--   rec-tick-recording, rec-ticks-recording
+--                              a tick that does not find the list full leaves one, and so do so many
+--   full-refused               a list that was found full at a finish is refused next, with work done of e
+use mathlib.Core.Path.{_≡_, refl, sym, ap, subst, _∙_}
+use mathlib.Core.Logic.{_↔_, _⊎_, inl, inr, Iff·trans, Iff·and, Iff·rfl}
+use mathlib.Core.List.{List}
+use Prim.Native.Nat.{ℕ, suc, _+_, _*_, _≤_, _<_}
+use native.Mathlib.Nat.{add-zero}
+use native.Mathlib.Omega.{arith}
+use Rattle.words.specs.Table.{tab}
+use Rattle.chain.specs.Tests.{sum-iff}
+use Rattle.chain.specs.Refusals.{refused, first, orElse, Silent, or-says, or-silents, Only, only-or}
+use Rattle.chain.specs.Record.{rowOf}
+use Rattle.chain.specs.declared.Refusal.{Refusal}
+use Rattle.chain.specs.declared.Chain.{Chain}
+use Rattle.sizing.specs.Accepted.{Accepted}
+use Rattle.state.specs.State.{freshRun, countAt, heldAt}
+use Rattle.state.specs.Fired.{Slots, BalanceWith}
+use Rattle.state.specs.Checks.{queueTest, BrokenAt, SteadyAt, FirstBrokenAt, queues-exact, queues-silent, queues-only, putIn, accounted}
+use Rattle.state.specs.declared.Run.{Run}
+use Rattle.slots.specs.Runs.{Whole}
+use Rattle.instants.specs.Filled.{Filled, Running, running-filled}
+use Rattle.instants.specs.Fresh.{fresh-running}
+use Rattle.losses.specs.Losses.{emptyLosses, entriesOf, lostIn, lost, Listed, listed-empty}
+use Rattle.losses.specs.Checks.{listCheck, LongOrStray, Named, list-exact, list-silent, list-only}
+use Rattle.losses.specs.declared.Losses.{Losses}
+use Rattle.recordings.specs.Steps.{recTick, recTicks}
+use Rattle.recordings.specs.Marked.{Marked}
+use Rattle.recordings.specs.Leads.{Leads, leads-balance}
+use Rattle.recordings.specs.Kept.{TickLeads, tick-leads, TicksLead, ticks-lead}
+use Rattle.recordings.specs.Trace.{recTickTrace, recTrace}
+use Rattle.recordings.specs.declared.RecordOutcome.the-variants.{ListFull}
+
+-- what queue i holds, "c × consumer's count", and the sum of its entries
+abbrev pub recAccounted : Chain → Run → Losses → ℕ → ℕ
+recAccounted c s l i = accounted c s i + lost l i
+
+-- "tokens produced equal tokens consumed, held, and the sum of that queue's entries"
+abbrev pub RecBalance : Chain → Run → Losses → ℕ → Type 0
+RecBalance c s l i = BalanceWith c s i (lost l i)
+
+-- "17's balance counts the entries": "lowest queue"
+unfoldable pub recQueuesCheck : Chain → Run → Losses → Refusal
+unfolding first tab lostIn
+recQueuesCheck c s l = first (tab (c .n) (queueTest c s (putIn c s) (recAccounted c s l)))
+
+-- "a list longer than 256 or an entry that names no queue of the chain is 17 before the balance"
+unfoldable pub recStateCheck : Chain → Run → Losses → Refusal
+unfolding orElse listCheck recQueuesCheck
+recStateCheck c s l = orElse (listCheck (c .n) l) (recQueuesCheck c s l)
+
+-- 17's reasons at queue i, none of them, and the lowest queue that has one
+abbrev pub RecBroken : Chain → Run → Losses → ℕ → Type 0
+RecBroken c s l = BrokenAt c s (putIn c s) (recAccounted c s l)
+
+abbrev pub RecSteady : Chain → Run → Losses → ℕ → Type 0
+RecSteady c s l = SteadyAt c s (putIn c s) (recAccounted c s l)
+
+abbrev pub FirstRecBroken : Chain → Run → Losses → ℕ → Type 0
+FirstRecBroken c s l = FirstBrokenAt c s (putIn c s) (recAccounted c s l)
+
+-- a state and a list that pass 17
+pub record RecSound (c : Chain) (s : Run) (l : Losses) : Type 0 where
+  pub short : l .count ≤ 256
+  pub named : Named (c .n) l
+  pub queues : (i : ℕ) → i < c .n → RecSteady c s l i
+
+module _ (c : Chain) (s : Run) (l : Losses) where
+  -- the list, at place 0; or the lowest queue of a state whose list passes
+  pub rec-state-exact : (L : ℕ) → (recStateCheck c s l ≡ refused 17 L)
+      ↔ ((LongOrStray (c .n) l × (L ≡ 0)) ⊎ (((l .count ≤ 256) × Named (c .n) l) × FirstRecBroken c s l L))
+  unfolding recStateCheck recQueuesCheck
+  rec-state-exact L =
+      Iff·trans (or-says 17 L (λ e. omega arith) (listCheck (c .n) l) (recQueuesCheck c s l))
+      (sum-iff (list-exact (c .n) l L) (Iff·and (list-silent (c .n) l) (queues-exact c s (putIn c s) (recAccounted c s l) L)))
+
+  pub rec-state-silent : Silent (recStateCheck c s l) ↔ RecSound c s l
+  unfolding recStateCheck recQueuesCheck
+  rec-state-silent =
+      Iff·trans (or-silents (listCheck (c .n) l) (recQueuesCheck c s l))
+      (Iff·trans (Iff·and (list-silent (c .n) l) (queues-silent c s (putIn c s) (recAccounted c s l)))
+      (λ h. record { short = h .0 .0; named = h .0 .1; queues = h .1 }, λ r. ((r .short, r .named), r .queues)))
+
+  pub rec-state-only : Only 17 (recStateCheck c s l)
+  unfolding recStateCheck recQueuesCheck
+  rec-state-only = only-or (listCheck (c .n) l) (recQueuesCheck c s l) (list-only (c .n) l) (queues-only c s (putIn c s) (recAccounted c s l))
+
+-- an accepted chain, and a state and a list, of all their slots, that pass 17
+pub record Recording (c : Chain) (s : Run) (l : Losses) : Type 0 where
+  pub chain : Accepted c
+  pub whole : Whole s
+  pub listed : Listed l
+  pub sound : RecSound c s l
+
+module _ {c : Chain} {s : Run} {l : Losses} where
+  -- what a step needs of the state
+  pub recording-filled : Recording c s l → Filled c s
+  recording-filled r = record { chain = r .chain; whole = r .whole; within = λ j f. r .sound .queues j f .0 .1; below = λ j f. r .sound .queues j f .1 }
+
+  pub filled-recording : Filled c s → Listed l → Named (c .n) l → ((j : ℕ) → j < c .n → RecBalance c s l j) → Recording c s l
+  filled-recording f k n b = record {
+    chain = f .chain;
+    whole = f .whole;
+    listed = k;
+    sound = record { short = k .short; named = n; queues = λ j h. ((b j h, f .within j h), f .below j h) };
+  }
+
+  -- each queue has its slots
+  pub recording-slots : Recording c s l → Slots (c .n) s
+  recording-slots r = record { counts = omega (arith, r .whole .counts, r .chain .chain .count .1); held = omega (arith, r .whole .held, r .chain .chain .count .1) }
+
+-- firings that lead to a filled state lead to one that passes 17
+pub leads-recording : {c : Chain} {s u : Run} {l m : Losses} {h : List Marked} → Recording c s l → Leads c s l h u m → Filled c u → Recording c u m
+leads-recording r a f =
+    filled-recording f (a .listed) (a .named (r .sound .named)) (λ j n. leads-balance (r .chain .chain) (recording-slots r) a j n (r .sound .queues j n .0 .0))
+
+-- a fresh start with an empty list
+pub fresh-recording : {c : Chain} → Accepted c → Recording c (freshRun c) emptyLosses
+unfolding tab lostIn
+fresh-recording {c} a =
+    filled-recording (running-filled (fresh-running a)) listed-empty (λ k h. absurd (omega arith)) (λ j h. fresh-running a .state j h .0 .0 ∙ sym (add-zero _))
+
+module _ {c : Chain} {s : Run} {l : Losses} (r : Recording c s l) where
+  -- "clean and 13 leave a state and a list that pass the recording 17": one tick
+  pub rec-tick-recording : ((t q : ℕ) → recTick c s l .outcome ≡ ListFull t q → ⊥) → Recording c (recTick c s l .run) (recTick c s l .losses)
+  rec-tick-recording room = let k = tick-leads (recording-filled r) (r .listed) in leads-recording r (k .leads) (k .filled room)
+
+  -- and so many
+  pub rec-ticks-recording : (T : ℕ) → ((t q : ℕ) → recTicks c T s l .outcome ≡ ListFull t q → ⊥) → Recording c (recTicks c T s l .run) (recTicks c T s l .losses)
+  rec-ticks-recording T room = let k = ticks-lead T (recording-filled r) (r .listed) in leads-recording r (k .leads) (k .filled room)

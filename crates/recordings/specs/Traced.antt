@@ -1,0 +1,92 @@
+-- A recording run from a fresh start with an empty list, by the history of its firings (02, Item 2).
+--   rec-leads                  its trace leads from a fresh start to what it leaves
+--   rec-counted                each node has fired as often as it stands in the trace, lost or not
+--   rec-entries                the entries are what the lost firings of the trace lose, in order: none is invented, none missing
+--   rec-entry                  so entry k is the k-th of them
+--   rec-balance                tokens produced equal tokens consumed, held, and the sum of that queue's entries
+--   rec-fair                   a production is lost exactly where it does not fit
+--   rec-within                 and no queue passes its capacity
+use mathlib.Core.Path.{_≡_, refl, sym, ap, subst, _∙_}
+use mathlib.Core.List.{List, [], _∷_, _++_}
+use Prim.Native.Nat.{ℕ, suc, _+_, _*_, _≤_, _<_}
+use native.Mathlib.Omega.{arith}
+use lib.ListN.{length, getD}
+use Rattle.words.specs.Table.{tab, length-tab, tab-at}
+use Rattle.chain.specs.Record.{rowOf}
+use Rattle.chain.specs.declared.Chain.{Chain}
+use Rattle.sizing.specs.Sizes.{start, capacityOf}
+use Rattle.sizing.specs.Accepted.{Accepted}
+use Rattle.state.specs.State.{freshRun, countAt, heldAt, fresh-count}
+use Rattle.state.specs.Fired.{BalanceWith}
+use Rattle.state.specs.declared.Run.{Run}
+use Rattle.history.specs.History.{nodes, times}
+use Rattle.traces.specs.Trace.{resting}
+use Rattle.instants.specs.Filled.{Filled}
+use Rattle.losses.specs.Losses.{noLoss, emptyLosses, entryAt, entriesOf, lost, empty-entries}
+use Rattle.losses.specs.declared.Loss.{Loss}
+use Rattle.losses.specs.declared.Losses.{Losses}
+use Rattle.recordings.specs.Steps.{recInstants, recTicks}
+use Rattle.recordings.specs.Runs.{rec-run-is-ticks}
+use Rattle.recordings.specs.Marked.{Marked, firings, recAfter, EachFair, lossesOf, marked-counted, marked-within}
+use Rattle.recordings.specs.Trace.{recTrace}
+use Rattle.recordings.specs.Leads.{Leads, leads-balance}
+use Rattle.recordings.specs.Kept.{ticks-lead}
+use Rattle.recordings.specs.Checks.{Recording, recording-filled, recording-slots, fresh-recording}
+use Rattle.recordings.specs.declared.Recorded.{Recorded}
+
+-- a fresh start is at rest
+fresh-resting : (c : Chain) → resting (freshRun c) ≡ freshRun c
+unfolding freshRun
+fresh-resting c = refl
+
+-- what a run of T ticks from a fresh start with an empty list leaves, and its firings
+abbrev pub recRun : Chain → ℕ → Recorded
+recRun c T = recInstants c T (freshRun c) emptyLosses
+
+abbrev pub recFirings : Chain → ℕ → List Marked
+recFirings c T = recTrace c T (freshRun c) emptyLosses
+
+module _ {c : Chain} (a : Accepted c) (T : ℕ) where
+  fresh : Recording c (freshRun c) emptyLosses
+  fresh = fresh-recording a
+
+  pub rec-leads : Leads c (freshRun c) emptyLosses (recFirings c T) (recRun c T .run) (recRun c T .losses)
+  rec-leads = subst (λ (x : Recorded). Leads c (freshRun c) emptyLosses (recFirings c T) (x .run) (x .losses)) (sym (rec-run-is-ticks a T emptyLosses))
+      (ticks-lead T (recording-filled fresh) (fresh .listed) .leads)
+
+  -- a production is lost exactly where it does not fit, and each firing is of a node over threshold
+  pub rec-fair : EachFair c (freshRun c) (recFirings c T)
+  rec-fair = subst (λ (s : Run). EachFair c s (recFirings c T)) (fresh-resting c) (rec-leads .fair)
+
+  -- the counts and contents after its firings are the run's
+  pub rec-after : recAfter c (freshRun c) (recFirings c T) ≡ resting (recRun c T .run)
+  rec-after = subst (λ (s : Run). recAfter c s (recFirings c T) ≡ resting (recRun c T .run)) (fresh-resting c) (rec-leads .after)
+
+  -- each node has fired as often as it stands in the trace
+  pub rec-counted : (i : ℕ) → i ≤ c .n → countAt (recRun c T .run) i ≡ times i (nodes (firings (recFirings c T)))
+  rec-counted i l =
+      ap (λ (s : Run). countAt s i) (sym rec-after)
+      ∙ omega (arith, marked-counted c (freshRun c) (recFirings c T) i (omega (arith, recording-slots fresh .counts)), fresh-count c i)
+
+  -- "its tick, queue and tokens go into a list": the entries are those of the lost firings, in order
+  pub rec-entries : entriesOf (recRun c T .losses) ≡ lossesOf c (recFirings c T)
+  unfolding tab
+  rec-entries = rec-leads .entries
+
+  -- so there are as many, and entry k is the k-th
+  pub rec-count : recRun c T .losses .count ≡ length (lossesOf c (recFirings c T))
+  rec-count = sym (length-tab (recRun c T .losses .count) (entryAt (recRun c T .losses))) ∙ ap length rec-entries
+
+  pub rec-entry : (k : ℕ) → k < recRun c T .losses .count → entryAt (recRun c T .losses) k ≡ getD (lossesOf c (recFirings c T)) k noLoss
+  rec-entry k l = sym (tab-at (recRun c T .losses .count) (entryAt (recRun c T .losses)) k noLoss l) ∙ ap (λ (h : List Loss). getD h k noLoss) rec-entries
+
+  -- "for each queue, tokens produced equal tokens consumed, held, and the sum of that queue's entries, all from the history"
+  pub rec-balance : (j : ℕ) → j < c .n → start (rowOf c j) + rowOf c j .produce * times j (nodes (firings (recFirings c T)))
+      ≡ heldAt (recRun c T .run) j + rowOf c j .consume * times (suc j) (nodes (firings (recFirings c T))) + lost (recRun c T .losses) j
+  rec-balance j l =
+      rw (← rec-counted j (omega arith), ← rec-counted (suc j) l)
+      (leads-balance (a .chain) (recording-slots fresh) rec-leads j l (fresh .sound .queues j l .0 .0))
+
+  -- "no queue passes its capacity"
+  pub rec-within : (j : ℕ) → j < c .n → heldAt (recRun c T .run) j ≤ capacityOf (rowOf c j)
+  rec-within j l = subst (λ (s : Run). heldAt s j ≤ capacityOf (rowOf c j)) rec-after (marked-within (recording-filled fresh) (recFirings c T) rec-fair j l)
