@@ -1,5 +1,6 @@
 -- The three ways in which a tick ends (01, Firing), of a state that passes 17.
 --   Dated c u                  no node over threshold in u has an index past the limit on its way
+--   lacking-found, dated-of    where 13 speaks there is such a node, and where it is silent there is none
 --   lacking-once, -dated       13 has one place, and none where each has its deadline
 --   tick-three                 what holds of the three ways in which a tick ends holds of it: the source overflows; 13; the work of the node chosen
 use mathlib.Core.Path.{_≡_, refl, sym, ap, subst, _∙_}
@@ -32,7 +33,7 @@ module _ (c : Chain) (u : Run) where
   lacking-only = only-tab 13 (λ j. lackingTest c u (suc j)) (λ j. only-test 13 (suc j) (over c u (suc j) && not (eqb (indexCheck c (suc j) (next u (suc j)) .number) 0))) (c .n)
 
   -- 13 speaks of the lowest node that lacks its deadline
-  lacking-found : (Silent (lacking c u) → ⊥) → FirstLacking c u (lacking c u .place)
+  pub lacking-found : (Silent (lacking c u) → ⊥) → FirstLacking c u (lacking c u .place)
   lacking-found n = let e : lacking c u .number ≡ 13 = lacking-only n in lacking-exact c u (lacking c u .place) .0 (λ k. record { number = e k; place = lacking c u .place })
 
   -- there is one such node only
@@ -44,7 +45,7 @@ module _ (c : Chain) (u : Run) where
   lacking-dated zero f d = omega (arith, f .some)
   lacking-dated (suc j) f d = omega (arith, f .past .passes, d j (f .node) (f .over) (f .past .at) (f .past .node))
 
-  dated-of : Silent (lacking c u) → Dated c u
+  pub dated-of : Silent (lacking c u) → Dated c u
   dated-of z j l o = within-is c u (suc j) .0 (lacking-silent c u .0 z j l o)
 
 module _ {c : Chain} {s : Run} (r : Running c s) where

@@ -8,21 +8,22 @@
 --   empty-entries              the empty list has none
 --   Listed l, listed-empty     a list of 256 slots, of which no more are entries; the empty list is one
 --   Noted l t q p m            m is l with the entry (t, q, p) more, slot by slot
---   is-noted                   which is what `noted` makes; listed-noted: and such a list it is again
+--   noted-only, is-noted       no other list is that, and `noted` makes it; listed-noted: which has 256 slots again
 --   noted-entries              so the entries are those before, and this one after them
 --   Goes l m                   m's first entries are l's, and from m's last entry on its slots are l's
 --   goes-refl, -trans, goes-noted
 --                              a list goes on from itself, from list to list, and by one entry
 --   lost-append, lost-noted    the tokens of entries one after the other, and with one entry more
-use mathlib.Core.Path.{_≡_, refl, ap, _∙_}
-use mathlib.Core.Logic.{_≢_}
+use mathlib.Core.Path.{_≡_, refl, sym, ap, _∙_}
+use mathlib.Core.Logic.{_≢_, by-cases}
 use mathlib.Core.Bool.{cond}
 use mathlib.Core.List.{List, [], _∷_, _++_}
 use Prim.Native.Nat.{ℕ, _+_, _≤_, _<_}
+use native.Mathlib.Decide.{ℕ-discrete}
 use native.Mathlib.Omega.{arith}
 use lib.Dec.{eqb}
 use lib.ListN.{length, getD, set, replicate, length-set, length-replicate}
-use lib.Seq.{getD-set-same, getD-set-other}
+use lib.Seq.{getD-set-same, getD-set-other, ext-getD}
 use Rattle.words.specs.Table.{tab, tab-more, tab-alike}
 use Rattle.losses.specs.declared.Loss.{Loss}
 use Rattle.losses.specs.declared.Losses.{Losses}
@@ -80,6 +81,15 @@ pub record Noted (l : Losses) (t q p : ℕ) (m : Losses) : Type 0 where
   pub tokens : entryAt m (l .count) .tokens ≡ p
   pub others : (k : ℕ) → k ≢ l .count → entryAt m k ≡ entryAt l k
   pub long : length (m .entries) ≡ length (l .entries)
+
+-- and no other list is that
+pub noted-only : {l : Losses} {t q p : ℕ} {m n : Losses} → Noted l t q p m → Noted l t q p n → m ≡ n
+noted-only {l} {m = m} {n} a b = λ i. record { count = (a .count ∙ sym (b .count)) i; entries = same i }
+  where
+    same : m .entries ≡ n .entries
+    same = ext-getD noLoss (m .entries) (n .entries) (a .long ∙ sym (b .long)) (λ k h. by-cases (ℕ-discrete k (l .count))
+        (λ e. rw e (λ i. loss ((a .tick ∙ sym (b .tick)) i) ((a .queue ∙ sym (b .queue)) i) ((a .tokens ∙ sym (b .tokens)) i)))
+        (λ ne. a .others k ne ∙ sym (b .others k ne)))
 
 -- m's first entries are l's, and the slots from m's last entry on are as they were
 pub record Goes (l m : Losses) : Type 0 where

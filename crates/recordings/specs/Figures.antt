@@ -1,27 +1,42 @@
 -- Figures of recording runs, each computed (02, Item 2).
---   lossy e B                  the factory chain 0 with execution time e and capacity B
---   recRow x, lossRow e        what is left, of a chain of one queue, and an entry
---   feed-90                    a run of 90 ticks with two losses
+--   recRow x                   what is left, of a chain of one queue: the outcome's number, the counts of source and sink, what is held, the length of the list, and the
+--                              outcome's values
+--   feed-90, feed-90-losses    Feed with e=7 and B=10, which as a deadline run overflows at tick 40: two losses in 90 ticks
+--   feed-90-firings            and the firings that were lost
+--   shallow, shallow-512, -513 a queue in which nothing fits: the list fills up, and the 257th loss stops the run
+--   two, two-513, -514         a second queue in which nothing fits: the run is stopped at a finish
+--   two-refused                and its state and list are refused then
+--   steep, steepRun            a chain whose deadline run overflows at tick 131,072, queue 0, and its state then
+--   steep-overflows, steep-taken-back
+--                              which 13 ends in a recording run, taking back the source's loss
 use mathlib.Core.Path.{_≡_, refl}
-use mathlib.Core.List.{List, [], _∷_, map}
+use mathlib.Core.List.{List, [], _∷_, map, _++_}
+use mathlib.Core.Bool.{true, false}
 use Prim.Native.Nat.{ℕ}
+use lib.ListN.{replicate}
 use Rattle.words.specs.Table.{tab}
+use Rattle.chain.specs.Refusals.{refused, first}
 use Rattle.chain.specs.Factory.{queue, made}
 use Rattle.chain.specs.declared.Chain.{Chain}
 use Rattle.state.specs.State.{freshRun, countAt, heldAt, doneAt}
 use Rattle.state.specs.declared.Run.{Run}
 use Rattle.instants.specs.Figures.{feedWorking}
-use Rattle.losses.specs.Losses.{emptyLosses, loss, entriesOf}
+use Rattle.instants.specs.Steps.{overflowed, tick}
+use Rattle.losses.specs.Losses.{emptyLosses, loss, noLoss, entryAt, entriesOf}
 use Rattle.losses.specs.declared.Loss.{Loss}
-use Rattle.recordings.specs.Steps.{recNumberOf, recValuesOf, recTicks, recInstants, recTick}
+use Rattle.losses.specs.declared.Losses.{Losses}
+use Rattle.recordings.specs.Steps.{recNumberOf, recValuesOf, recUndated, recTick, recTicks, recInstants}
+use Rattle.recordings.specs.Marked.{Marked, lossesOf}
+use Rattle.recordings.specs.Trace.{recTrace}
+use Rattle.recordings.specs.Checks.{recStateCheck}
 use Rattle.recordings.specs.declared.Recorded.{Recorded}
 
 -- what is left, of a chain of one queue
 abbrev pub recRow : Recorded → List ℕ
-recRow x = recNumberOf (x .outcome) ∷ countAt (x .run) 0 ∷ countAt (x .run) 1 ∷ heldAt (x .run) 0 ∷ recValuesOf (x .outcome)
+recRow x = recNumberOf (x .outcome) ∷ countAt (x .run) 0 ∷ countAt (x .run) 1 ∷ heldAt (x .run) 0 ∷ x .losses .count ∷ recValuesOf (x .outcome)
 
--- Feed with e=7 and B=10, whose deadline run overflows at tick 40: two productions are lost in 90 ticks
-pub feed-90 : recRow (recInstants (feedWorking 7 10) 90 (freshRun (feedWorking 7 10)) emptyLosses) ≡ 0 ∷ 9 ∷ 8 ∷ 4 ∷ []
+-- Feed with e=7 and B=10, to tick 90
+pub feed-90 : recRow (recInstants (feedWorking 7 10) 90 (freshRun (feedWorking 7 10)) emptyLosses) ≡ 0 ∷ 9 ∷ 8 ∷ 4 ∷ 2 ∷ []
 unfolding recInstants freshRun
 feed-90 = refl
 
@@ -29,10 +44,63 @@ pub feed-90-losses : entriesOf (recInstants (feedWorking 7 10) 90 (freshRun (fee
 unfolding recInstants freshRun tab
 feed-90-losses = refl
 
+-- its firings to tick 41: the source's at 40 is lost
+pub feed-41-firings : recTrace (feedWorking 7 10) 41 (freshRun (feedWorking 7 10)) emptyLosses
+    ≡ ((0, 0), false) ∷ ((10, 0), false) ∷ ((17, 1), false) ∷ ((20, 0), false) ∷ ((27, 1), false) ∷ ((30, 0), false) ∷ ((37, 1), false) ∷ ((40, 0), true) ∷ []
+unfolding recTrace freshRun
+feed-41-firings = refl
+
 -- a queue in which nothing fits
 abbrev pub shallow : Chain
 shallow = made 2 (queue 4 7 7 3 ∷ []) (1 ∷ [])
 
-pub shallow-513 : recRow (recTicks shallow 513 (freshRun shallow) emptyLosses) ≡ 15 ∷ 256 ∷ 0 ∷ 0 ∷ 512 ∷ 0 ∷ []
+-- the 256th loss, at tick 510, is kept
+pub shallow-512 : recRow (recTicks shallow 512 (freshRun shallow) emptyLosses) ≡ 0 ∷ 256 ∷ 0 ∷ 0 ∷ 256 ∷ []
+unfolding recTicks freshRun
+shallow-512 = refl
+
+pub shallow-last : entryAt (recTicks shallow 512 (freshRun shallow) emptyLosses .losses) 255 ≡ loss 510 0 4
+unfolding recTicks freshRun
+shallow-last = refl
+
+-- the 257th stops the run at tick 512, queue 0
+pub shallow-513 : recRow (recTicks shallow 513 (freshRun shallow) emptyLosses) ≡ 15 ∷ 256 ∷ 0 ∷ 0 ∷ 256 ∷ 512 ∷ 0 ∷ []
 unfolding recTicks freshRun
 shallow-513 = refl
+
+-- a second queue in which nothing fits
+abbrev pub two : Chain
+two = made 2 (queue 1 1 1 1 ∷ queue 4 4 4 3 ∷ []) (1 ∷ 1 ∷ [])
+
+-- what is left of it: the outcome's number, all counts, contents and work done, the length of the list, the clock, and the outcome's values
+abbrev pub twoRow : Recorded → List ℕ
+twoRow x =
+    recNumberOf (x .outcome) ∷ countAt (x .run) 0 ∷ countAt (x .run) 1 ∷ countAt (x .run) 2 ∷ heldAt (x .run) 0 ∷ heldAt (x .run) 1
+    ∷ doneAt (x .run) 0 ∷ doneAt (x .run) 1 ∷ x .losses .count ∷ x .run .clock ∷ recValuesOf (x .outcome)
+
+-- it is stopped at a finish: the clock is 513 and the work of N_1 is done, its firing not counted and its input not taken
+pub two-513 : twoRow (recTicks two 513 (freshRun two) emptyLosses) ≡ 15 ∷ 257 ∷ 256 ∷ 0 ∷ 1 ∷ 0 ∷ 1 ∷ 0 ∷ 256 ∷ 513 ∷ 513 ∷ 1 ∷ []
+unfolding recTicks freshRun
+two-513 = refl
+
+-- and refused then: work done of e, at queue 0
+pub two-refused : recStateCheck two (recTicks two 513 (freshRun two) emptyLosses .run) (recTicks two 513 (freshRun two) emptyLosses .losses) ≡ refused 17 0
+unfolding recTicks freshRun recStateCheck
+two-refused = refl
+
+-- a chain whose deadline run overflows at the source in a tick in which a node lacks its deadline
+abbrev pub steep : Chain
+steep = made 2 (queue 1 1 1 1 ∷ queue 1 65535 65535 65535 ∷ queue 1 1 1 1000000 ∷ []) (1 ∷ 3 ∷ 1 ∷ [])
+
+-- its state at that tick
+abbrev pub steepRun : Run
+steepRun = record { clock = 131072; counts = 65536 ∷ 65535 ∷ 1 ∷ 0 ∷ []; held = 1 ∷ 0 ∷ 1 ∷ []; done = 0 ∷ 0 ∷ 0 ∷ [] }
+
+pub steep-overflows : tick steep steepRun ≡ overflowed steepRun 131072 0
+unfolding tick
+steep-overflows = refl
+
+-- "13 at an instant takes back the entry of that instant's source step": node 3, and no entry
+pub steep-taken-back : recTick steep steepRun emptyLosses ≡ recUndated steepRun emptyLosses 131072 3
+unfolding recTick
+steep-taken-back = refl

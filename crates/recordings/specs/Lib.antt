@@ -1,5 +1,4 @@
 pub mod Steps
-pub mod Figures
 pub mod Runs
 pub mod Drops
 pub mod Cases
@@ -10,3 +9,6 @@ pub mod Kept
 pub mod Checks
 pub mod Traced
 pub mod Same
+pub mod Once
+pub mod Exactly
+pub mod Figures

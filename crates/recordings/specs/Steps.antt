@@ -1,6 +1,6 @@
 -- One recording tick and a recording run (02, Item 2); "rec" before a name says: the same of a recording run.
 --   recNumberOf o, recValuesOf o
---                              the number and the values that 01's way gives an outcome
+--                              the number and the values that 01's way gives an outcome; recTickOf, recAtOf o: the values one by one
 --   recClean s l, recUndated s l t i, recFull s l t q
 --                              a state and a list that are left clean, by 13 at t of node i, or by the full list at t and queue q
 --   recGoes, recOnward r f     what f makes of a state and a list that were left clean; any other outcome stands
@@ -43,6 +43,17 @@ abbrev pub recValuesOf : RecordOutcome → List ℕ
 recValuesOf Clean = []
 recValuesOf (NoDeadline t i) = t ∷ i ∷ []
 recValuesOf (ListFull t q) = t ∷ q ∷ []
+
+-- the two one by one; 0 where there is none
+abbrev pub recTickOf : RecordOutcome → ℕ
+recTickOf Clean = 0
+recTickOf (NoDeadline t i) = t
+recTickOf (ListFull t q) = t
+
+abbrev pub recAtOf : RecordOutcome → ℕ
+recAtOf Clean = 0
+recAtOf (NoDeadline t i) = i
+recAtOf (ListFull t q) = q
 
 -- the three ways in which a state and a list are left
 abbrev pub recClean : Run → Losses → Recorded
