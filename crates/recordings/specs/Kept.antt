@@ -9,6 +9,7 @@ use mathlib.Core.Logic.{_≢_, ⊎-elim}
 use mathlib.Core.Bool.{Bool, true, false, cond, true≢false}
 use mathlib.Core.List.{List, [], _∷_, _++_, append-nil}
 use Prim.Native.Nat.{ℕ, zero, suc, _+_, _≤_, _<_}
+use native.Mathlib.Nat.{le-refl}
 use native.Mathlib.Omega.{arith}
 use lib.Dec.{eqb}
 use Rattle.chain.specs.Record.{rowOf, workOf}
@@ -76,7 +77,7 @@ module _ {c : Chain} {s : Run} (f : Filled c s) {l : Losses} (k : Listed l) wher
   -- an outcome leaves the state and the list as they were
   source-stays : (h : List Marked) (o : RecordOutcome) → (o ≡ Clean → ⊥) → SourceLeads c s l h (record { outcome = o; run = s; losses = l })
   source-stays h o n = record {
-    leads = subst (λ (g : List Marked). Leads c s l g s l) (sym (tracing-ended o h n)) (leads-none c s s k refl refl);
+    leads = subst (λ (g : List Marked). Leads c s l g s l) (sym (tracing-ended o h n)) (leads-none c s s k refl refl (le-refl (s .clock)));
     filled = f;
     clock = refl;
     stays = λ m. (refl, refl);
@@ -88,7 +89,7 @@ module _ {c : Chain} {s : Run} (f : Filled c s) {l : Losses} (k : Listed l) wher
       (λ d full room.
       let x : Cramped c s 0 = (f .chain .chain .count .0, full) in
       record {
-        leads = rw (due-entry c s d true (cramped-is c s 0 .1 x)) (leads-dropped c s k (s .clock) 0 (omega arith) tt x room);
+        leads = rw (due-entry c s d true (cramped-is c s 0 .1 x)) (leads-dropped c s k 0 (omega arith) tt x room);
         filled = dropped-filled f 0 tt;
         clock = refl;
         stays = λ n. absurd (n refl);
@@ -97,13 +98,13 @@ module _ {c : Chain} {s : Run} (f : Filled c s) {l : Losses} (k : Listed l) wher
       (λ d fits.
       let x : Room c s 0 = λ h. fits in
       record {
-        leads = rw (due-entry c s d false (cramped-room c s 0 .1 x)) (leads-fired c s k (s .clock) 0 (omega arith) tt x);
+        leads = rw (due-entry c s d false (cramped-room c s 0 .1 x)) (leads-fired c s k 0 (omega arith) tt x);
         filled = fired-filled f 0 tt x;
         clock = fired-clock c s 0;
         stays = λ n. absurd (n refl);
       })
       (λ rests. record {
-        leads = rw (rest-entry c s rests) (leads-none c s s k refl refl);
+        leads = rw (rest-entry c s rests) (leads-none c s s k refl refl (le-refl (s .clock)));
         filled = f;
         clock = refl;
         stays = λ n. absurd (n refl);
@@ -152,19 +153,20 @@ module _ (c : Chain) (u : Run) {l : Losses} (k : Listed l) (j : ℕ) (node : j <
 
   cleared-leads : (h : List Marked) {v : Run} {m : Losses} → Leads c cleared l h v m → Leads c u l h v m
   unfolding cleared
-  cleared-leads h = leads-then [] h (leads-none c u cleared k (sym (worked-counts u (suc j))) (sym (worked-held u (suc j))))
+  cleared-leads h = leads-then [] h (leads-none c u cleared k (sym (worked-counts u (suc j))) (sym (worked-held u (suc j))) (omega (arith, worked-clock u (suc j))))
 
   cleared-over : Over c cleared (suc j)
   unfolding cleared worked
   cleared-over = over
 
-  finish-leads : (t : ℕ) → Room c u (suc j) → Leads c u l (((t, suc j), false) ∷ []) (fired c cleared (suc j)) l
+  finish-leads : Room c u (suc j) → Leads c u l (((worked u (suc j) .clock, suc j), false) ∷ []) (fired c cleared (suc j)) l
   unfolding cleared worked
-  finish-leads t room = cleared-leads _ (leads-fired c cleared k t (suc j) node cleared-over room)
+  finish-leads room = cleared-leads _ (leads-fired c cleared k (suc j) node cleared-over room)
 
-  finish-drops : (t : ℕ) → Cramped c u (suc j) → l .count < 256 → Leads c u l (((t, suc j), true) ∷ []) (dropped c cleared (suc j)) (noted l t (suc j) (rowOf c (suc j) .produce))
+  finish-drops : Cramped c u (suc j) → l .count < 256
+      → Leads c u l (((worked u (suc j) .clock, suc j), true) ∷ []) (dropped c cleared (suc j)) (noted l (worked u (suc j) .clock) (suc j) (rowOf c (suc j) .produce))
   unfolding cleared worked
-  finish-drops t full room = cleared-leads _ (leads-dropped c cleared k t (suc j) node cleared-over full room)
+  finish-drops full room = cleared-leads _ (leads-dropped c cleared k (suc j) node cleared-over full room)
 
 module _ {c : Chain} {u : Run} (f : Filled c u) {l : Losses} (k : Listed l) where
   pub work-leads : (i : ℕ) → i ≤ c .n → ((j : ℕ) → i ≡ suc j → Over c u (suc j))
@@ -173,27 +175,27 @@ module _ {c : Chain} {u : Run} (f : Filled c u) {l : Losses} (k : Listed l) wher
   work-leads i low over = work-four f l (WorkLeads c u l h) i low
       (λ no. let less : (j : ℕ) → j < c .n → i ≡ suc j → doneAt u j + 1 < workOf c j = λ j m e. omega (arith, no j e, f .below j m) in
       record {
-        leads = rw (rest-finish f i less) (leads-none c u (worked u i) k (sym (worked-counts u i)) (sym (worked-held u i)));
+        leads = rw (rest-finish f i less) (leads-none c u (worked u i) k (sym (worked-counts u i)) (sym (worked-held u i)) (omega (arith, worked-clock u i)));
         filled = λ z. works-filled f i less;
         clock = worked-clock u i;
         dated = λ t j e. rec-unclean-undated (sym e);
       })
       (λ j e all room. record {
         leads = subst (λ (g : List Marked). Leads c u l g (fired c (withDone (worked u (suc j)) j 0) (suc j)) l)
-            (sym (own j e all false (cramped-room c u (suc j) .1 room))) (finish-leads c u k j (node j e) (over j e) (worked u (suc j) .clock) room);
+            (sym (own j e all false (cramped-room c u (suc j) .1 room))) (finish-leads c u k j (node j e) (over j e) room);
         filled = λ z. fired-filled (cleared-filled f j (node j e) all) (suc j) (cleared-over c u k j (node j e) (over j e)) (rw (worked-held u (suc j)) room);
         clock = fired-clock c (withDone (worked u (suc j)) j 0) (suc j) ∙ worked-clock u (suc j);
         dated = λ t m q. rec-unclean-undated (sym q);
       })
       (λ j e all full room. record {
         leads = subst (λ (g : List Marked). Leads c u l g (dropped c (withDone (worked u (suc j)) j 0) (suc j)) (noted l (worked u (suc j) .clock) (suc j) (rowOf c (suc j) .produce)))
-            (sym (own j e all true (cramped-is c u (suc j) .1 full))) (finish-drops c u k j (node j e) (over j e) (worked u (suc j) .clock) full room);
+            (sym (own j e all true (cramped-is c u (suc j) .1 full))) (finish-drops c u k j (node j e) (over j e) full room);
         filled = λ z. dropped-filled (cleared-filled f j (node j e) all) (suc j) (cleared-over c u k j (node j e) (over j e));
         clock = worked-clock u (suc j);
         dated = λ t m q. rec-unclean-undated (sym q);
       })
       (λ j e all full none. record {
-        leads = leads-none c u (worked u (suc j)) k (sym (worked-counts u (suc j))) (sym (worked-held u (suc j)));
+        leads = leads-none c u (worked u (suc j)) k (sym (worked-counts u (suc j))) (sym (worked-held u (suc j))) (omega (arith, worked-clock u (suc j)));
         filled = λ z. absurd (rec-unclean-full z);
         clock = worked-clock u (suc j);
         dated = λ t m q. full-dated q;
@@ -282,7 +284,7 @@ pub record TicksLead (c : Chain) (s : Run) (l : Losses) (h : List Marked) (x : R
 
 pub ticks-lead : {c : Chain} (T : ℕ) {s : Run} → Filled c s → {l : Losses} → Listed l → TicksLead c s l (recTrace c T s l) (recTicks c T s l)
 unfolding recTrace recTicks
-ticks-lead {c} zero {s} f {l} k = record { leads = leads-none c s s k refl refl; filled = λ room. f }
+ticks-lead {c} zero {s} f {l} k = record { leads = leads-none c s s k refl refl (le-refl (s .clock)); filled = λ room. f }
 ticks-lead {c} (suc T) {s} f {l} k = ⊎-elim
     (λ z.
     let step : TickLeads c s l (recTickTrace c s l) x = tick-leads f k in

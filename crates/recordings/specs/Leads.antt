@@ -6,8 +6,9 @@
 use mathlib.Core.Path.{_≡_, refl, sym, ap, ap₂, subst, _∙_}
 use mathlib.Core.Logic.{by-cases}
 use mathlib.Core.Bool.{true, false, true≢false}
-use mathlib.Core.List.{List, [], _∷_, _++_, append-nil, append-assoc}
+use mathlib.Core.List.{List, [], _∷_, _++_, append-nil, append-assoc, map-append}
 use Prim.Native.Nat.{ℕ, zero, suc, _+_, _≤_, _<_}
+use native.Mathlib.Nat.{le-refl}
 use native.Mathlib.Decide.{ℕ-discrete}
 use native.Mathlib.Omega.{arith}
 use lib.ListN.{replicate}
@@ -18,16 +19,18 @@ use Rattle.chain.specs.declared.Chain.{Chain}
 use Rattle.state.specs.State.{heldAt}
 use Rattle.state.specs.Fired.{consumed, fired, Over, Room, Slots, BalanceWith}
 use Rattle.state.specs.declared.Run.{Run}
+use Rattle.history.specs.History.{Entry}
 use Rattle.traces.specs.Trace.{resting}
+use Rattle.traces.specs.Rising.{Rising, rising-append}
 use Rattle.losses.specs.Losses.{loss, entryAt, entriesOf, noted, lostIn, lost, lost-append, Listed, listed-noted, is-noted, noted-entries, Goes, goes-refl, goes-trans, goes-noted}
 use Rattle.losses.specs.Checks.{Named}
 use Rattle.losses.specs.declared.Losses.{Losses}
 use Rattle.recordings.specs.Steps.{dropped}
 use Rattle.recordings.specs.Drops.{Cramped}
-use Rattle.recordings.specs.Marked.{Marked, recStep, recAfter, Fair, EachFair, lossesOf, after-append, fair-append, losses-append, marked-balance}
+use Rattle.recordings.specs.Marked.{Marked, firings, recStep, recAfter, Fair, EachFair, lossesOf, after-append, fair-append, losses-append, marked-balance}
 
 -- the firings h lead from s and l to u and m: each is fair where it is made, the counts and contents after them are u's, and m has l's entries and then what the
--- lost ones lost, its other slots as they were
+-- lost ones lost, its other slots as they were; the instants never fall, from the clock of s to that of u
 pub record Leads (c : Chain) (s : Run) (l : Losses) (h : List Marked) (u : Run) (m : Losses) : Type 0 where
   pub fair : EachFair c (resting s) h
   pub after : recAfter c (resting s) h ≡ resting u
@@ -35,17 +38,19 @@ pub record Leads (c : Chain) (s : Run) (l : Losses) (h : List Marked) (u : Run) 
   pub goes : Goes l m
   pub listed : Listed m
   pub named : Named (c .n) l → Named (c .n) m
+  pub rising : Rising (s .clock) (firings h) (u .clock)
 
 -- no firing, between states with the same counts and contents
-pub leads-none : (c : Chain) (s u : Run) {l : Losses} → Listed l → s .counts ≡ u .counts → s .held ≡ u .held → Leads c s l [] u l
-unfolding EachFair recAfter lossesOf
-leads-none c s u {l} k a h = record {
+pub leads-none : (c : Chain) (s u : Run) {l : Losses} → Listed l → s .counts ≡ u .counts → s .held ≡ u .held → s .clock ≤ u .clock → Leads c s l [] u l
+unfolding EachFair recAfter lossesOf Rising
+leads-none c s u {l} k a h later = record {
   fair = tt;
   after = λ i. record { clock = 0; counts = a i; held = h i; done = replicate 16 0 };
   entries = sym (append-nil (entriesOf l));
   goes = goes-refl l;
   listed = k;
   named = λ n. n;
+  rising = later;
 }
 
 -- a node that is over threshold is so at rest
@@ -53,10 +58,10 @@ resting-over : (c : Chain) (s : Run) (i : ℕ) → Over c s i → Over c (restin
 resting-over c s zero o = tt
 resting-over c s (suc j) o = o
 
-module _ (c : Chain) (s : Run) {l : Losses} (k : Listed l) (t i : ℕ) (node : i ≤ c .n) (over : Over c s i) where
-  -- one firing, which fits
-  pub leads-fired : Room c s i → Leads c s l (((t, i), false) ∷ []) (fired c s i) l
-  unfolding EachFair recAfter lossesOf fired
+module _ (c : Chain) (s : Run) {l : Losses} (k : Listed l) (i : ℕ) (node : i ≤ c .n) (over : Over c s i) where
+  -- one firing at the clock of s, which fits
+  pub leads-fired : Room c s i → Leads c s l (((s .clock, i), false) ∷ []) (fired c s i) l
+  unfolding EachFair recAfter lossesOf fired Rising
   leads-fired room = record {
     fair = (record { node = node; over = resting-over c s i over; lost = λ e. absurd (true≢false (sym e)); fits = λ e. room }, tt);
     after = refl;
@@ -64,31 +69,34 @@ module _ (c : Chain) (s : Run) {l : Losses} (k : Listed l) (t i : ℕ) (node : i
     goes = goes-refl l;
     listed = k;
     named = λ n. n;
+    rising = (le-refl (s .clock), le-refl (s .clock));
   }
 
   -- one that is lost, and noted
-  pub leads-dropped : Cramped c s i → l .count < 256 → Leads c s l (((t, i), true) ∷ []) (dropped c s i) (noted l t i (rowOf c i .produce))
-  unfolding EachFair recAfter lossesOf fired
+  pub leads-dropped : Cramped c s i → l .count < 256 → Leads c s l (((s .clock, i), true) ∷ []) (dropped c s i) (noted l (s .clock) i (rowOf c i .produce))
+  unfolding EachFair recAfter lossesOf fired Rising
   leads-dropped full room = record {
     fair = (record { node = node; over = resting-over c s i over; lost = λ e. full; fits = λ e. absurd (true≢false e) }, tt);
     after = refl;
-    entries = noted-entries k room t i (rowOf c i .produce);
-    goes = goes-noted k room t i (rowOf c i .produce);
-    listed = listed-noted k room t i (rowOf c i .produce);
+    entries = noted-entries k room (s .clock) i (rowOf c i .produce);
+    goes = goes-noted k room (s .clock) i (rowOf c i .produce);
+    listed = listed-noted k room (s .clock) i (rowOf c i .produce);
     named = λ n m f. by-cases (ℕ-discrete m (l .count))
-        (λ e. rw (e, is-noted k room t i (rowOf c i .produce) .queue) (full .0))
-        (λ ne. rw (is-noted k room t i (rowOf c i .produce) .others m ne) (n m (omega (arith, ne))));
+        (λ e. rw (e, is-noted k room (s .clock) i (rowOf c i .produce) .queue) (full .0))
+        (λ ne. rw (is-noted k room (s .clock) i (rowOf c i .produce) .others m ne) (n m (omega (arith, ne))));
+    rising = (le-refl (s .clock), le-refl (s .clock));
   }
 
 -- one history and then another
 pub leads-then : {c : Chain} {s u v : Run} {l m n : Losses} (g h : List Marked) → Leads c s l g u m → Leads c u m h v n → Leads c s l (g ++ h) v n
-leads-then {c} {s} {l = l} g h a b = record {
+leads-then {c} {s} {u} {v} {l} g h a b = record {
   fair = fair-append c (resting s) g h (a .fair) (subst (λ (x : Run). EachFair c x h) (sym (a .after)) (b .fair));
   after = after-append c (resting s) g h ∙ ap (λ (x : Run). recAfter c x h) (a .after) ∙ b .after;
   entries = b .entries ∙ ap (λ (x : List _). x ++ lossesOf c h) (a .entries) ∙ append-assoc (entriesOf l) (lossesOf c g) (lossesOf c h) ∙ ap (λ (x : List _). entriesOf l ++ x) (sym (losses-append c g h));
   goes = goes-trans (a .goes) (b .goes);
   listed = b .listed;
   named = λ k. b .named (a .named k);
+  rising = subst (λ (x : List Entry). Rising (s .clock) x (v .clock)) (sym (map-append (λ (e : Marked). e .0) g h)) (rising-append (s .clock) (firings g) (u .clock) (firings h) (v .clock) (a .rising) (b .rising));
 }
 
 -- "tokens produced equal tokens consumed, held, and the sum of that queue's entries"

@@ -5,6 +5,7 @@
 --   rec-entry                  so entry k is the k-th of them
 --   rec-balance                tokens produced equal tokens consumed, held, and the sum of that queue's entries
 --   rec-fair                   a production is lost exactly where it does not fit
+--   rec-rising                 the instants never fall
 --   rec-within                 and no queue passes its capacity
 use mathlib.Core.Path.{_≡_, refl, sym, ap, subst, _∙_}
 use mathlib.Core.List.{List, [], _∷_, _++_}
@@ -21,7 +22,7 @@ use Rattle.state.specs.Fired.{BalanceWith}
 use Rattle.state.specs.declared.Run.{Run}
 use Rattle.history.specs.History.{nodes, times}
 use Rattle.traces.specs.Trace.{resting}
-use Rattle.instants.specs.Filled.{Filled}
+use Rattle.traces.specs.Rising.{Rising}
 use Rattle.losses.specs.Losses.{noLoss, emptyLosses, entryAt, entriesOf, lost, empty-entries}
 use Rattle.losses.specs.declared.Loss.{Loss}
 use Rattle.losses.specs.declared.Losses.{Losses}
@@ -86,6 +87,11 @@ module _ {c : Chain} (a : Accepted c) (T : ℕ) where
   rec-balance j l =
       rw (← rec-counted j (omega arith), ← rec-counted (suc j) l)
       (leads-balance (a .chain) (recording-slots fresh) rec-leads j l (fresh .sound .queues j l .0 .0))
+
+  -- the instants of its firings never fall, from 0 to the clock at its end
+  pub rec-rising : Rising 0 (firings (recFirings c T)) (recRun c T .run .clock)
+  unfolding freshRun
+  rec-rising = rec-leads .rising
 
   -- "no queue passes its capacity"
   pub rec-within : (j : ℕ) → j < c .n → heldAt (recRun c T .run) j ≤ capacityOf (rowOf c j)
