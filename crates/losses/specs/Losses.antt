@@ -109,6 +109,20 @@ goes-trans a b = record {
   long = b .long ∙ a .long;
 }
 
+-- one entry more, in any list
+module _ (l : Losses) (t q p : ℕ) where
+  other : (i : ℕ) → i ≢ l .count → entryAt (noted l t q p) i ≡ entryAt l i
+  other i ne = getD-set-other (l .entries) (l .count) i (loss t q p) noLoss ne
+
+  pub goes-noted : Goes l (noted l t q p)
+  goes-noted = record {
+    more = omega arith;
+    before = λ m h. other m (λ e. omega arith);
+    behind = λ m h. other m (λ e. omega arith);
+    long = length-set (l .entries) (l .count) (loss t q p);
+  }
+
+-- and in one that has a slot for it
 module _ {l : Losses} (k : Listed l) (room : l .count < 256) (t q p : ℕ) where
   slot : l .count < length (l .entries)
   slot = omega (arith, k .long)
@@ -116,16 +130,13 @@ module _ {l : Losses} (k : Listed l) (room : l .count < 256) (t q p : ℕ) where
   own : entryAt (noted l t q p) (l .count) ≡ loss t q p
   own = getD-set-same (l .entries) (l .count) (loss t q p) noLoss slot
 
-  other : (i : ℕ) → i ≢ l .count → entryAt (noted l t q p) i ≡ entryAt l i
-  other i ne = getD-set-other (l .entries) (l .count) i (loss t q p) noLoss ne
-
   pub is-noted : Noted l t q p (noted l t q p)
   is-noted = record {
     count = refl;
     tick = ap (λ (e : Loss). e .tick) own;
     queue = ap (λ (e : Loss). e .queue) own;
     tokens = ap (λ (e : Loss). e .tokens) own;
-    others = other;
+    others = other l t q p;
     long = length-set (l .entries) (l .count) (loss t q p);
   }
 
@@ -135,15 +146,7 @@ module _ {l : Losses} (k : Listed l) (room : l .count < 256) (t q p : ℕ) where
   pub noted-entries : entriesOf (noted l t q p) ≡ entriesOf l ++ (loss t q p ∷ [])
   noted-entries =
       tab-more (l .count) (entryAt (noted l t q p))
-      ∙ (λ i. tab-alike (l .count) (entryAt (noted l t q p)) (entryAt l) (λ m h. other m (λ e. omega arith)) i ++ (own i ∷ []))
-
-  pub goes-noted : Goes l (noted l t q p)
-  goes-noted = record {
-    more = omega arith;
-    before = λ m h. other m (λ e. omega arith);
-    behind = λ m h. other m (λ e. omega arith);
-    long = length-set (l .entries) (l .count) (loss t q p);
-  }
+      ∙ (λ i. tab-alike (l .count) (entryAt (noted l t q p)) (entryAt l) (λ m h. other l t q p m (λ e. omega arith)) i ++ (own i ∷ []))
 
 -- the tokens of entries one after the other
 pub lost-append : (j : ℕ) (g h : List Loss) → lostIn j (g ++ h) ≡ lostIn j g + lostIn j h

@@ -79,7 +79,7 @@ module _ (c : Chain) (s : Run) {l : Losses} (k : Listed l) (i : ℕ) (node : i �
     fair = (record { node = node; over = resting-over c s i over; lost = λ e. full; fits = λ e. absurd (true≢false e) }, tt);
     after = refl;
     entries = noted-entries k room (s .clock) i (rowOf c i .produce);
-    goes = goes-noted k room (s .clock) i (rowOf c i .produce);
+    goes = goes-noted l (s .clock) i (rowOf c i .produce);
     listed = listed-noted k room (s .clock) i (rowOf c i .produce);
     named = λ n m f. by-cases (ℕ-discrete m (l .count))
         (λ e. rw (e, is-noted k room (s .clock) i (rowOf c i .produce) .queue) (full .0))

@@ -1,6 +1,8 @@
 -- The slots of a chain and of a state past n are not read by a tick (01, Firing: "the slots past n are neither read nor changed"). Throughout, c and d
 -- are chains, and s and t states, that differ in slots past n only.
+--   consumed-alike           what a firing takes from its input queue
 --   fired-alike              a firing of a node of the chain
+--   cleared-alike            the work done of a node, cleared
 --   ended-low                the node whose work is done is a node of the chain
 --   sourced-, lacking-, chosen-, worked-, ended-, finish- and finished-alike
 --                            the parts of a tick
@@ -104,7 +106,7 @@ module _ {c d : Chain} (a : AlikeChains c d) where
       by true e = let l : i < c .n = ltb-true _ _ e in alike-set x y i _ _ h (λ k. h .slots i l k + a .rows i l k .produce)
       by false e = h
 
-  consumed-alike : (i : ℕ) → i ≤ c .n → (x y : List ℕ) → AlikeLists (c .n) x y → AlikeLists (c .n) (consumed c i x) (consumed d i y)
+  pub consumed-alike : (i : ℕ) → i ≤ c .n → (x y : List ℕ) → AlikeLists (c .n) x y → AlikeLists (c .n) (consumed c i x) (consumed d i y)
   unfolding consumed
   consumed-alike zero l x y h = h
   consumed-alike (suc j) l x y h = alike-set x y j _ _ h (λ k. h .slots j l k - a .rows j l k .consume)
@@ -130,6 +132,10 @@ worked-alike {s = s} {t} r (suc j) l = record {
   done = alike-set (s .done) (t .done) j _ _ (r .done) (ap (λ (m : ℕ). m + 1) (r .done .slots j l));
 }
 
+-- the work done of N_(j+1) is cleared
+pub cleared-alike : {n : ℕ} {s t : Run} → AlikeStates n s t → (j : ℕ) → AlikeStates n (withDone s j 0) (withDone t j 0)
+cleared-alike {s = s} {t} r j = record { clock = r .clock; counts = r .counts; held = r .held; done = alike-set (s .done) (t .done) j 0 0 (r .done) refl }
+
 -- a production that does not fit, at a time and a queue
 overflowed-alike : {n : ℕ} {s t : Run} → AlikeStates n s t → (q : ℕ) → AlikeTicked n (overflowed s (s .clock) q) (overflowed t (t .clock) q)
 overflowed-alike r q = record { outcome = ap (λ (m : ℕ). Overflowed m q) (r .clock); state = r }
@@ -147,10 +153,7 @@ module _ {c d : Chain} (a : AlikeChains c d) where
   pub finish-alike : {s t : Run} → AlikeStates (c .n) s t → (i : ℕ) → i ≤ c .n → AlikeTicked (c .n) (finish c s i) (finish d t i)
   unfolding finish
   finish-alike r zero l = alike-clean r
-  finish-alike {s} {t} r (suc j) l = alike-cond (cramped-alike a (runs-of r) (suc j)) (overflowed-alike r (suc j)) (alike-clean (fired-alike a cleared (suc j) l))
-    where
-      cleared : AlikeStates (c .n) (withDone s j 0) (withDone t j 0)
-      cleared = record { clock = r .clock; counts = r .counts; held = r .held; done = alike-set (s .done) (t .done) j 0 0 (r .done) refl }
+  finish-alike {s} {t} r (suc j) l = alike-cond (cramped-alike a (runs-of r) (suc j)) (overflowed-alike r (suc j)) (alike-clean (fired-alike a (cleared-alike r j) (suc j) l))
 
   -- the firing finished by then
   pub finished-alike : {s t : Run} → AlikeStates (c .n) s t → AlikeTicked (c .n) (finished c s) (finished d t)

@@ -1,5 +1,7 @@
 -- A tick keeps the slots past n of its state, and the number of slots (01, Firing: "the slots past n are neither read nor changed").
+--   consumed-kept            what a firing takes from its input queue
 --   fired-kept, worked-kept  a firing of a node of the chain, and one tick of work
+--   cleared-kept             the work done of a node, cleared
 --   sourced-, finish-, finished-, begun- and advanced-kept
 --                            the parts of a tick
 --   tick- and instants-kept
@@ -7,7 +9,7 @@
 use mathlib.Core.Path.{_≡_, refl}
 use mathlib.Core.Bool.{Bool, true, false, cond}
 use mathlib.Core.List.{List}
-use Prim.Native.Nat.{ℕ, zero, suc, _+_, _-_, _≤_}
+use Prim.Native.Nat.{ℕ, zero, suc, _+_, _-_, _≤_, _<_}
 use native.Mathlib.Omega.{arith}
 use lib.Dec.{ltb, eqb}
 use lib.ListN.{getD, set}
@@ -29,6 +31,10 @@ unfolding worked
 worked-kept s zero l = record { counts = kept-list (s .counts); held = kept-list (s .held); done = kept-list (s .done) }
 worked-kept s (suc j) l = record { counts = kept-list (s .counts); held = kept-list (s .held); done = kept-set (s .done) j (doneAt s j + 1) l }
 
+-- the work done of N_(j+1) is cleared
+pub cleared-kept : {n : ℕ} (s : Run) (j : ℕ) → j < n → KeptSlots n s (withDone s j 0)
+cleared-kept s j l = record { counts = kept-list (s .counts); held = kept-list (s .held); done = kept-set (s .done) j 0 l }
+
 module _ (c : Chain) where
   produced-kept : (i : ℕ) (x : List ℕ) → KeptList (c .n) x (produced c i x)
   unfolding produced
@@ -38,7 +44,8 @@ module _ (c : Chain) where
       by true e = kept-set x i (getD x i 0 + rowOf c i .produce) (ltb-true _ _ e)
       by false e = kept-list x
 
-  consumed-kept : (i : ℕ) → i ≤ c .n → (x : List ℕ) → KeptList (c .n) x (consumed c i x)
+  -- what a firing takes from its input queue
+  pub consumed-kept : (i : ℕ) → i ≤ c .n → (x : List ℕ) → KeptList (c .n) x (consumed c i x)
   unfolding consumed
   consumed-kept zero l x = kept-list x
   consumed-kept (suc j) l x = kept-set x j (getD x j 0 - rowOf c j .consume) l
@@ -61,10 +68,7 @@ module _ (c : Chain) where
   pub finish-kept : (s : Run) (i : ℕ) → i ≤ c .n → KeptSlots (c .n) s (finish c s i .run)
   unfolding finish
   finish-kept s zero l = kept-refl s
-  finish-kept s (suc j) l = kept-cond _ _ (cramped c s (suc j)) (kept-refl s) (kept-trans cleared (fired-kept (withDone s j 0) (suc j) l))
-    where
-      cleared : KeptSlots (c .n) s (withDone s j 0)
-      cleared = record { counts = kept-list (s .counts); held = kept-list (s .held); done = kept-set (s .done) j 0 l }
+  finish-kept s (suc j) l = kept-cond _ _ (cramped c s (suc j)) (kept-refl s) (kept-trans (cleared-kept s j l) (fired-kept (withDone s j 0) (suc j) l))
 
   -- the firing finished by then
   pub finished-kept : (s : Run) → KeptSlots (c .n) s (finished c s .run)

@@ -2,6 +2,7 @@
 -- neither read nor changed").
 --   AlikeLists n x y         two lists of as many slots that agree on the first n
 --   KeptList n x y           y has as many slots as x, and x's slots from n on
+--   set-same                 a slot that is written in lists of as many slots is the same
 --   alike-set, kept-set      one slot written in both, and one of the first n written
 --   kept-list, kept-lists    a list keeps its own slots, and keeping goes from list to list
 --   same-list                lists that agree on the first n slots and kept the others of one list are equal
@@ -45,12 +46,12 @@ pub record KeptList (n : ℕ) (x y : List ℕ) : Type 0 where
   pub slots : (i : ℕ) → n ≤ i → getD y i 0 ≡ getD x i 0
 
 -- a slot that is written in both is the same, and so is one that neither has
-set-same : (x y : List ℕ) (i v : ℕ) → length x ≡ length y → getD (set x i v) i 0 ≡ getD (set y i v) i 0
-set-same [] [] i v e = refl
-set-same [] (b ∷ y) i v e = absurd (omega arith)
-set-same (a ∷ x) [] i v e = absurd (omega arith)
-set-same (a ∷ x) (b ∷ y) zero v e = refl
-set-same (a ∷ x) (b ∷ y) (suc i) v e = set-same x y i v (omega arith)
+pub set-same : {A : Type 0} (x y : List A) (i : ℕ) (v none : A) → length x ≡ length y → getD (set x i v) i none ≡ getD (set y i v) i none
+set-same [] [] i v none e = refl
+set-same [] (b ∷ y) i v none e = absurd (omega arith)
+set-same (a ∷ x) [] i v none e = absurd (omega arith)
+set-same (a ∷ x) (b ∷ y) zero v none e = refl
+set-same (a ∷ x) (b ∷ y) (suc i) v none e = set-same x y i v none (omega arith)
 
 -- one slot is written in both
 pub alike-set : {n : ℕ} (x y : List ℕ) (i v w : ℕ) → AlikeLists n x y → v ≡ w → AlikeLists n (set x i v) (set y i w)
@@ -58,7 +59,7 @@ alike-set {n} x y i v w a e = rw (← e) (record { long = length-set x i v ∙ a
   where
     at : (j : ℕ) → j < n → getD (set x i v) j 0 ≡ getD (set y i v) j 0
     at j l = by-cases (ℕ-discrete j i)
-        (λ f. rw f (set-same x y i v (a .long)))
+        (λ f. rw f (set-same x y i v 0 (a .long)))
         (λ ne. getD-set-other x i j v 0 ne ∙ a .slots j l ∙ sym (getD-set-other y i j v 0 ne))
 
 -- one of the first n slots is written

@@ -1,0 +1,5 @@
+pub mod Lists
+pub mod Queues
+pub mod Alike
+pub mod Kept
+pub mod Same
