@@ -3,3 +3,4 @@ pub mod Queues
 pub mod Alike
 pub mod Kept
 pub mod Same
+pub mod Checks
