@@ -8,12 +8,12 @@
 --   ticks-more, ticks-last     a+b ticks are a ticks, carried on for b, and so for one
 use mathlib.Core.Path.{_≡_, refl, ap, _∙_}
 use mathlib.Core.Logic.{_⊎_, inl, inr}
-use Prim.Native.Nat.{ℕ, zero, suc, _+_}
+use Prim.Native.Nat.{ℕ, suc, _+_}
 use native.Mathlib.Omega.{arith}
 use Rattle.chain.specs.declared.Chain.{Chain}
 use Rattle.state.specs.declared.Run.{Run}
-use Rattle.instants.specs.Steps.{kindOf, clean, goes, onward, finished, advanced, tick, ticks, instants}
-use Rattle.instants.specs.Follows.{Follows, Many, Instants, many-more, many-last, instants-many}
+use Rattle.instants.specs.Steps.{kindOf, clean, goes, onward, finished, tick, ticks, instants}
+use Rattle.instants.specs.Follows.{Follows, Many, many-more, many-last, instants-many}
 use Rattle.instants.specs.declared.Outcome.{Outcome}
 use Rattle.instants.specs.declared.Outcome.the-variants.{Clean, Overflowed, NoDeadline}
 use Rattle.instants.specs.declared.Ticked.{Ticked}

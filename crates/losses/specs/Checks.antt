@@ -8,14 +8,14 @@
 --   Stray, Named n l           one of the entries names no queue, or each names one
 --   LongOrStray n l            17 of the list in words
 --   list-exact, -silent, -only it speaks exactly then, at place 0, is silent exactly elsewhere, and has its own number
-use mathlib.Core.Path.{_≡_, refl, sym, _∙_}
+use mathlib.Core.Path.{_≡_, sym, _∙_}
 use mathlib.Core.Logic.{_↔_, _⊎_, inl, inr, ⊎-elim, Iff·trans, Iff·and, Iff·rfl}
 use Prim.Native.Nat.{ℕ, _≤_, _<_}
 use native.Mathlib.Omega.{arith}
 use lib.Dec.{leb, ltb}
 use Rattle.words.specs.Table.{tab}
 use Rattle.chain.specs.Tests.{below-true, below-false, upto-true, upto-false}
-use Rattle.chain.specs.Refusals.{refused, test, first, orElse, Silent, Lowest, lowest-is, all-silent, test-exact, test-silent, or-says, or-silents, Only, only-test, only-tab, only-or}
+use Rattle.chain.specs.Refusals.{refused, test, first, orElse, Silent, lowest-is, all-silent, test-exact, test-silent, or-says, or-silents, Only, only-test, only-tab, only-or}
 use Rattle.chain.specs.declared.Refusal.{Refusal}
 use Rattle.losses.specs.Losses.{longestList, entryAt}
 use Rattle.losses.specs.declared.Losses.{Losses}

@@ -5,7 +5,7 @@
 --   rec-begun-cases            what the source's step and 13 leave, by what the source's step leaves
 --   rec-tick-begun, -ends, -works
 --                              a tick is these, and then, where these are clean, the work of the node chosen and its effect
-use mathlib.Core.Path.{_≡_, refl, sym, ap, subst, _∙_}
+use mathlib.Core.Path.{_≡_, refl, sym, subst, _∙_}
 use mathlib.Core.Logic.{_≢_, by-cases}
 use mathlib.Core.Bool.{Bool, true, false, cond}
 use Prim.Native.Nat.{ℕ, zero, suc, _+_, _≤_, _<_}
@@ -20,7 +20,7 @@ use Rattle.state.specs.State.{doneAt}
 use Rattle.state.specs.Fired.{fired, Room}
 use Rattle.state.specs.Checks.{cramped}
 use Rattle.state.specs.declared.Run.{Run}
-use Rattle.instants.specs.Steps.{clean, overflowed, withDone, sourced, lacking, chosen, worked, finish, finished}
+use Rattle.instants.specs.Steps.{overflowed, withDone, lacking, chosen, worked, finish}
 use Rattle.instants.specs.Filled.{Filled, cramped-as}
 use Rattle.instants.specs.Source.{Due, Full, Fits, source-three}
 use Rattle.instants.specs.Kept.{finish-cases, worked-held, works-on, works-ends}

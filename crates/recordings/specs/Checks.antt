@@ -15,34 +15,32 @@
 --   rec-tick-recording, rec-ticks-recording
 --                              a tick that does not find the list full leaves one, and so do so many
 --   full-refused               a list that was found full at a finish is refused next, with work done of e
-use mathlib.Core.Path.{_≡_, refl, sym, ap, subst, _∙_}
-use mathlib.Core.Logic.{_↔_, _⊎_, inl, inr, Iff·trans, Iff·and, Iff·rfl}
+use mathlib.Core.Path.{_≡_, sym, _∙_}
+use mathlib.Core.Logic.{_↔_, _⊎_, Iff·trans, Iff·and}
 use mathlib.Core.List.{List}
-use Prim.Native.Nat.{ℕ, suc, _+_, _*_, _≤_, _<_}
+use Prim.Native.Nat.{ℕ, _+_, _≤_, _<_}
 use native.Mathlib.Nat.{add-zero}
 use native.Mathlib.Omega.{arith}
 use Rattle.words.specs.Table.{tab}
 use Rattle.chain.specs.Tests.{sum-iff}
 use Rattle.chain.specs.Refusals.{refused, first, orElse, Silent, or-says, or-silents, Only, only-or}
-use Rattle.chain.specs.Record.{rowOf}
 use Rattle.chain.specs.declared.Refusal.{Refusal}
 use Rattle.chain.specs.declared.Chain.{Chain}
 use Rattle.sizing.specs.Accepted.{Accepted}
-use Rattle.state.specs.State.{freshRun, countAt, heldAt}
+use Rattle.state.specs.State.{freshRun}
 use Rattle.state.specs.Fired.{Slots, BalanceWith}
 use Rattle.state.specs.Checks.{queueTest, BrokenAt, SteadyAt, FirstBrokenAt, queues-exact, queues-silent, queues-only, putIn, accounted}
 use Rattle.state.specs.declared.Run.{Run}
 use Rattle.slots.specs.Runs.{Whole}
-use Rattle.instants.specs.Filled.{Filled, Running, running-filled}
+use Rattle.instants.specs.Filled.{Filled, running-filled}
 use Rattle.instants.specs.Fresh.{fresh-running}
-use Rattle.losses.specs.Losses.{emptyLosses, entriesOf, lostIn, lost, Listed, listed-empty}
+use Rattle.losses.specs.Losses.{emptyLosses, lostIn, lost, Listed, listed-empty}
 use Rattle.losses.specs.Checks.{listCheck, LongOrStray, Named, list-exact, list-silent, list-only}
 use Rattle.losses.specs.declared.Losses.{Losses}
 use Rattle.recordings.specs.Steps.{recTick, recTicks}
 use Rattle.recordings.specs.Marked.{Marked}
 use Rattle.recordings.specs.Leads.{Leads, leads-balance}
-use Rattle.recordings.specs.Kept.{TickLeads, tick-leads, TicksLead, ticks-lead}
-use Rattle.recordings.specs.Trace.{recTickTrace, recTrace}
+use Rattle.recordings.specs.Kept.{tick-leads, ticks-lead}
 use Rattle.recordings.specs.declared.RecordOutcome.the-variants.{ListFull}
 
 -- what queue i holds, "c × consumer's count", and the sum of its entries

@@ -8,8 +8,8 @@
 --   dropped-balance            so p tokens more of its output queue are no more, and none of any other
 --   dropped-filled             and no queue passes its capacity
 use mathlib.Core.Path.{_≡_, refl, sym, ap, subst, _∙_}
-use mathlib.Core.Logic.{_↔_, _≢_, by-cases, Iff·trans, Iff·rfl}
-use mathlib.Core.Bool.{Bool, true, false, cond, true≢false}
+use mathlib.Core.Logic.{_↔_, _≢_, by-cases}
+use mathlib.Core.Bool.{Bool, true, false, cond}
 use Prim.Native.Nat.{ℕ, zero, suc, _+_, _-_, _≤_, _<_}
 use native.Mathlib.Nat.{add-zero}
 use native.Mathlib.Decide.{ℕ-discrete}
@@ -22,9 +22,9 @@ use Rattle.chain.specs.Tests.{and-true, below-true}
 use Rattle.chain.specs.Record.{rowOf}
 use Rattle.chain.specs.declared.Chain.{Chain}
 use Rattle.sizing.specs.Sizes.{capacityOf}
-use Rattle.state.specs.State.{countAt, heldAt}
+use Rattle.state.specs.State.{heldAt}
 use Rattle.state.specs.Fired.{consumed, fired, Over, Room, Slots, BalanceWith, over-enough, counts-length, held-output, held-input, held-other, balance-with-kept}
-use Rattle.state.specs.Checks.{cramped, room-silent}
+use Rattle.state.specs.Checks.{cramped}
 use Rattle.state.specs.declared.Run.{Run}
 use Rattle.slots.specs.Runs.{Whole}
 use Rattle.instants.specs.Filled.{Filled, room-of}

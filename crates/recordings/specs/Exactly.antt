@@ -15,31 +15,28 @@
 --   rec-ticks-to-only, rec-ticks-exactly
 --                              there is at most one such x, and so many ticks end with it
 use mathlib.Core.Path.{_≡_, refl, sym, ap, subst, _∙_}
-use mathlib.Core.Logic.{_↔_, _≢_, _⊎_, inl, inr, ⊎-elim, by-cases}
+use mathlib.Core.Logic.{_↔_, _⊎_, inl, inr, ⊎-elim}
 use Prim.Native.Nat.{ℕ, zero, suc, _+_, _≤_, _<_}
-use native.Mathlib.Decide.{ℕ-discrete}
 use native.Mathlib.Omega.{arith}
-use Rattle.chain.specs.Refusals.{Silent}
-use Rattle.chain.specs.Record.{rowOf, workOf}
+use Rattle.chain.specs.Record.{workOf}
 use Rattle.chain.specs.declared.Chain.{Chain}
 use Rattle.state.specs.State.{doneAt}
 use Rattle.state.specs.Fired.{Over, Room}
 use Rattle.state.specs.declared.Run.{Run}
 use Rattle.instants.specs.Steps.{lacking, chosen, worked}
 use Rattle.instants.specs.Filled.{Filled}
-use Rattle.instants.specs.Source.{Due, Full, Fits}
+use Rattle.instants.specs.Source.{Due, Full}
 use Rattle.instants.specs.Lacking.{FirstLacking}
 use Rattle.instants.specs.Outcomes.{Dated, lacking-once, lacking-dated, lacking-found, dated-of}
 use Rattle.instants.specs.Once.{Works, works-is}
 use Rattle.instants.specs.Kept.{worked-clock}
 use Rattle.losses.specs.Losses.{Listed}
 use Rattle.losses.specs.declared.Losses.{Losses}
-use Rattle.recordings.specs.Steps.{recNumberOf, recTickOf, recAtOf, recClean, recUndated, recFull, recOnward, recSourced, recBegun, recFinished, recTick, recTicks}
+use Rattle.recordings.specs.Steps.{recNumberOf, recTickOf, recAtOf, recClean, recUndated, recFull, recOnward, recSourced, recFinished, recTick, recTicks}
 use Rattle.recordings.specs.Runs.{rec-unclean-undated, rec-unclean-full, rec-clean-or, rec-onward-cases, rec-ticks-none, rec-ticks-suc}
 use Rattle.recordings.specs.Drops.{Cramped}
 use Rattle.recordings.specs.Cases.{source-four, work-four, rec-begun-cases, rec-tick-begun}
-use Rattle.recordings.specs.Kept.{SourceLeads, source-leads, tick-leads}
-use Rattle.recordings.specs.Trace.{marked}
+use Rattle.recordings.specs.Kept.{source-leads, tick-leads}
 use Rattle.recordings.specs.Once.{SourceNoted, source-noted, source-noted-only, WorkNoted, work-noted, work-noted-only, WorkFull, work-full, work-full-only}
 use Rattle.recordings.specs.declared.RecordOutcome.{RecordOutcome}
 use Rattle.recordings.specs.declared.RecordOutcome.the-variants.{Clean, NoDeadline, ListFull}
@@ -250,7 +247,8 @@ module _ {c : Chain} {s : Run} {l : Losses} {x : Recorded} (h : OneRecord c s l 
       (λ a. ⊎-elim
       (λ b. subst P (sym (b .is)) (lacks (b .node) (record { after = a .after; listed = a .listed; begun = a .begun; first = b .first })))
       (⊎-elim
-      (λ b. subst P (sym (b .is ∙ ap (λ (t : ℕ). recFull (b .left) (a .listed) (t + 1) (suc (b .before))) (a .begun .source .clock))) (finish (a .after) (b .left) (a .listed) (b .before) (a .begun) (b .full) (b .work)))
+      (λ b. subst P (sym (b .is ∙ ap (λ (t : ℕ). recFull (b .left) (a .listed) (t + 1) (suc (b .before))) (a .begun .source .clock)))
+      (finish (a .after) (b .left) (a .listed) (b .before) (a .begun) (b .full) (b .work)))
       (λ b. cleans (a .after) (a .listed) (a .begun) b))
       (a .rest))
       h
@@ -306,7 +304,8 @@ module _ {c : Chain} {s : Run} (f : Filled c s) {l : Losses} (k : Listed l) wher
     one-undated (is-one-record f k) t i,
     λ a.
         ap (λ (x : Recorded). x .outcome)
-        (rec-tick-exactly f k (recUndated s l (s .clock) i) .1 (inr (record { after = a .1 .after; listed = a .1 .listed; begun = a .1 .begun; rest = inl (record { node = i; first = a .1 .first; is = refl }) })))
+        (rec-tick-exactly f k (recUndated s l (s .clock) i) .1
+        (inr (record { after = a .1 .after; listed = a .1 .listed; begun = a .1 .begun; rest = inl (record { node = i; first = a .1 .first; is = refl }) })))
         ∙ (λ j. NoDeadline (sym (a .0) j) i),
   )
 

@@ -10,23 +10,19 @@
 --   steep-overflows, steep-taken-back
 --                              which 13 ends in a recording run, taking back the source's loss
 use mathlib.Core.Path.{_≡_, refl}
-use mathlib.Core.List.{List, [], _∷_, map, _++_}
+use mathlib.Core.List.{List, [], _∷_}
 use mathlib.Core.Bool.{true, false}
 use Prim.Native.Nat.{ℕ}
-use lib.ListN.{replicate}
 use Rattle.words.specs.Table.{tab}
-use Rattle.chain.specs.Refusals.{refused, first}
+use Rattle.chain.specs.Refusals.{refused}
 use Rattle.chain.specs.Factory.{queue, made}
 use Rattle.chain.specs.declared.Chain.{Chain}
 use Rattle.state.specs.State.{freshRun, countAt, heldAt, doneAt}
 use Rattle.state.specs.declared.Run.{Run}
 use Rattle.instants.specs.Figures.{feedWorking}
 use Rattle.instants.specs.Steps.{overflowed, tick}
-use Rattle.losses.specs.Losses.{emptyLosses, loss, noLoss, entryAt, entriesOf}
-use Rattle.losses.specs.declared.Loss.{Loss}
-use Rattle.losses.specs.declared.Losses.{Losses}
+use Rattle.losses.specs.Losses.{emptyLosses, loss, entryAt, entriesOf}
 use Rattle.recordings.specs.Steps.{recNumberOf, recValuesOf, recUndated, recTick, recTicks, recInstants}
-use Rattle.recordings.specs.Marked.{Marked, lossesOf}
 use Rattle.recordings.specs.Trace.{recTrace}
 use Rattle.recordings.specs.Checks.{recStateCheck}
 use Rattle.recordings.specs.declared.Recorded.{Recorded}

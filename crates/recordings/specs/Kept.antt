@@ -11,23 +11,21 @@ use mathlib.Core.List.{List, [], _∷_, _++_, append-nil}
 use Prim.Native.Nat.{ℕ, zero, suc, _+_, _≤_, _<_}
 use native.Mathlib.Nat.{le-refl}
 use native.Mathlib.Omega.{arith}
-use lib.Dec.{eqb}
 use Rattle.chain.specs.Record.{rowOf, workOf}
 use Rattle.chain.specs.declared.Chain.{Chain}
-use Rattle.state.specs.State.{countAt, heldAt, doneAt}
+use Rattle.state.specs.State.{doneAt}
 use Rattle.state.specs.Fired.{fired, Over, Room}
 use Rattle.state.specs.Checks.{cramped}
 use Rattle.state.specs.declared.Run.{Run}
-use Rattle.history.specs.History.{Entry}
 use Rattle.instants.specs.Steps.{divides, withDone, chosen, worked, ended}
 use Rattle.instants.specs.Filled.{Filled, fired-filled, cramped-as}
-use Rattle.instants.specs.Source.{Due, Full, Fits, divides-is}
+use Rattle.instants.specs.Source.{Due, divides-is}
 use Rattle.instants.specs.Kept.{chosen-low, chosen-over, worked-counts, worked-held, worked-clock, works-filled, works-unended, works-ended, cleared-filled, fired-clock}
 use Rattle.traces.specs.Trace.{sourceEntry, finishEntry}
 use Rattle.losses.specs.Losses.{Listed, noted}
 use Rattle.losses.specs.declared.Losses.{Losses}
-use Rattle.recordings.specs.Steps.{recNumberOf, recClean, recUndated, recFull, recOnward, dropped, recSourced, recBegun, recAdvanced, recFinished, recTick, recTicks}
-use Rattle.recordings.specs.Runs.{rec-unclean-undated, rec-unclean-full, rec-clean-or, rec-onward-goes, rec-onward-stops, rec-onward-cases, rec-ticks-none, rec-ticks-suc}
+use Rattle.recordings.specs.Steps.{recNumberOf, recClean, dropped, recSourced, recBegun, recAdvanced, recFinished, recTick, recTicks}
+use Rattle.recordings.specs.Runs.{rec-unclean-undated, rec-unclean-full, rec-clean-or, rec-onward-goes, rec-onward-stops}
 use Rattle.recordings.specs.Drops.{Cramped, cramped-is, cramped-room, dropped-filled}
 use Rattle.recordings.specs.Cases.{source-four, work-four, rec-begun-cases, rec-tick-ends, rec-tick-works}
 use Rattle.recordings.specs.Marked.{Marked}

@@ -3,7 +3,7 @@
 --   leads-none, -fired, -dropped, -then
 --                              no firing, one that fits, one that is lost, and one history after the other
 --   leads-balance              so the balance with what the list has lost is kept
-use mathlib.Core.Path.{_≡_, refl, sym, ap, ap₂, subst, _∙_}
+use mathlib.Core.Path.{_≡_, refl, sym, ap, subst, _∙_}
 use mathlib.Core.Logic.{by-cases}
 use mathlib.Core.Bool.{true, false, true≢false}
 use mathlib.Core.List.{List, [], _∷_, _++_, append-nil, append-assoc, map-append}
@@ -12,22 +12,21 @@ use native.Mathlib.Nat.{le-refl}
 use native.Mathlib.Decide.{ℕ-discrete}
 use native.Mathlib.Omega.{arith}
 use lib.ListN.{replicate}
-use Rattle.words.specs.Table.{tab}
 use Rattle.chain.specs.Record.{rowOf}
 use Rattle.chain.specs.Sound.{Sound}
 use Rattle.chain.specs.declared.Chain.{Chain}
-use Rattle.state.specs.State.{heldAt}
-use Rattle.state.specs.Fired.{consumed, fired, Over, Room, Slots, BalanceWith}
+use Rattle.state.specs.Fired.{fired, Over, Room, Slots, BalanceWith}
 use Rattle.state.specs.declared.Run.{Run}
 use Rattle.history.specs.History.{Entry}
 use Rattle.traces.specs.Trace.{resting}
 use Rattle.traces.specs.Rising.{Rising, rising-append}
-use Rattle.losses.specs.Losses.{loss, entryAt, entriesOf, noted, lostIn, lost, lost-append, Listed, listed-noted, is-noted, noted-entries, Goes, goes-refl, goes-trans, goes-noted}
+use Rattle.losses.specs.Losses.{entriesOf, noted, lostIn, lost, lost-append, Listed, listed-noted, is-noted, noted-entries, Goes, goes-refl, goes-trans, goes-noted}
 use Rattle.losses.specs.Checks.{Named}
+use Rattle.losses.specs.declared.Loss.{Loss}
 use Rattle.losses.specs.declared.Losses.{Losses}
 use Rattle.recordings.specs.Steps.{dropped}
 use Rattle.recordings.specs.Drops.{Cramped}
-use Rattle.recordings.specs.Marked.{Marked, firings, recStep, recAfter, Fair, EachFair, lossesOf, after-append, fair-append, losses-append, marked-balance}
+use Rattle.recordings.specs.Marked.{Marked, firings, recAfter, EachFair, lossesOf, after-append, fair-append, losses-append, marked-balance}
 
 -- the firings h lead from s and l to u and m: each is fair where it is made, the counts and contents after them are u's, and m has l's entries and then what the
 -- lost ones lost, its other slots as they were; the instants never fall, from the clock of s to that of u
@@ -92,15 +91,21 @@ pub leads-then : {c : Chain} {s u v : Run} {l m n : Losses} (g h : List Marked) 
 leads-then {c} {s} {u} {v} {l} g h a b = record {
   fair = fair-append c (resting s) g h (a .fair) (subst (λ (x : Run). EachFair c x h) (sym (a .after)) (b .fair));
   after = after-append c (resting s) g h ∙ ap (λ (x : Run). recAfter c x h) (a .after) ∙ b .after;
-  entries = b .entries ∙ ap (λ (x : List _). x ++ lossesOf c h) (a .entries) ∙ append-assoc (entriesOf l) (lossesOf c g) (lossesOf c h) ∙ ap (λ (x : List _). entriesOf l ++ x) (sym (losses-append c g h));
+  entries =
+      b .entries
+      ∙ ap (λ (x : List Loss). x ++ lossesOf c h) (a .entries)
+      ∙ append-assoc (entriesOf l) (lossesOf c g) (lossesOf c h)
+      ∙ ap (λ (x : List Loss). entriesOf l ++ x) (sym (losses-append c g h));
   goes = goes-trans (a .goes) (b .goes);
   listed = b .listed;
   named = λ k. b .named (a .named k);
-  rising = subst (λ (x : List Entry). Rising (s .clock) x (v .clock)) (sym (map-append (λ (e : Marked). e .0) g h)) (rising-append (s .clock) (firings g) (u .clock) (firings h) (v .clock) (a .rising) (b .rising));
+  rising = subst (λ (x : List Entry). Rising (s .clock) x (v .clock)) (sym (map-append (λ (e : Marked). e .0) g h))
+      (rising-append (s .clock) (firings g) (u .clock) (firings h) (v .clock) (a .rising) (b .rising));
 }
 
 -- "tokens produced equal tokens consumed, held, and the sum of that queue's entries"
-pub leads-balance : {c : Chain} {s u : Run} {l m : Losses} {h : List Marked} → Sound c → Slots (c .n) s → Leads c s l h u m → (j : ℕ) → j < c .n → BalanceWith c s j (lost l j) → BalanceWith c u j (lost m j)
+pub leads-balance : {c : Chain} {s u : Run} {l m : Losses} {h : List Marked} → Sound c → Slots (c .n) s → Leads c s l h u m
+    → (j : ℕ) → j < c .n → BalanceWith c s j (lost l j) → BalanceWith c u j (lost m j)
 leads-balance {c} {s} {u} {l} {m} {h} k slots a j f b =
     subst (λ (x : Run). BalanceWith c x j (lost m j)) (a .after)
     (subst (BalanceWith c (recAfter c (resting s) h) j) sum

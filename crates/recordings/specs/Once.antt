@@ -10,11 +10,11 @@
 --   WorkFull c u w j t         t is u after the last tick of work of N_(j+1), with nothing of its firing done
 --   work-full, work-full-only  what the full list leaves of a tick of work is that, and nothing else is
 use mathlib.Core.Path.{_≡_, refl, sym, ap, subst, _∙_}
-use mathlib.Core.Logic.{_≢_, _⊎_, by-cases}
+use mathlib.Core.Logic.{_≢_, by-cases}
 use mathlib.Core.Bool.{false}
 use mathlib.Core.List.{List}
 use Prim.Native.Nat.{ℕ, zero, suc, _+_, _≤_, _<_}
-use native.Mathlib.Decide.{ℕ-discrete, decLt, decLe, decDvd}
+use native.Mathlib.Decide.{ℕ-discrete, decLt, decDvd}
 use native.Mathlib.Omega.{arith}
 use lib.ListN.{length, getD, length-set}
 use lib.Seq.{getD-set-same, getD-set-other, ext-getD}
@@ -32,14 +32,13 @@ use Rattle.instants.specs.Source.{Due, Full, Fits, SourceOnce, once-fires, once
 use Rattle.instants.specs.Once.{WorkOnce, work-once, work-only}
 use Rattle.instants.specs.Kept.{worked-counts, worked-held, worked-clock, worked-same, worked-other, works-on, works-ends, cleared-filled, fired-clock}
 use Rattle.instants.specs.declared.Ticked.{Ticked}
-use Rattle.losses.specs.Losses.{noLoss, entryAt, noted, Noted, Listed, is-noted, noted-only}
+use Rattle.losses.specs.Losses.{noted, Noted, Listed, is-noted, noted-only}
 use Rattle.losses.specs.declared.Losses.{Losses}
-use Rattle.recordings.specs.Steps.{recClean, recFull, dropped, recSourced, recFinished}
+use Rattle.recordings.specs.Steps.{dropped, recSourced, recFinished}
 use Rattle.recordings.specs.Runs.{rec-unclean-full}
 use Rattle.recordings.specs.Drops.{Cramped, cramped-room, dropped-input, dropped-other, dropped-whole}
 use Rattle.recordings.specs.Cases.{source-four, work-four}
-use Rattle.recordings.specs.declared.RecordOutcome.the-variants.{Clean, ListFull}
-use Rattle.recordings.specs.declared.Recorded.{Recorded}
+use Rattle.recordings.specs.declared.RecordOutcome.the-variants.{Clean}
 
 -- "dropped whole", and "all else of the firing happens as ever": N_i has fired once more, its input queue has c less, no other queue is changed, its own among
 -- them, its work is cleared, and the list has one entry more: the clock, the queue and p
@@ -98,7 +97,9 @@ module _ {c : Chain} {s : Run} (f : Filled c s) {l : Losses} (k : Listed l) wher
 -- the source's step leaves one state and one list only
 pub source-noted-only : {c : Chain} {s : Run} {l : Losses} {u v : Run} {m n : Losses} → SourceNoted c s l u m → SourceNoted c s l v n → (u ≡ v) × (m ≡ n)
 source-noted-only {c} {s} {l} {u} {v} {m} {n} a b = by-cases (decDvd (c .period) (s .clock))
-    (λ d. by-cases (decLt (capacityOf (rowOf c 0)) (heldAt s 0 + rowOf c 0 .produce)) (λ full. lost-only (a .clock ∙ sym (b .clock)) (a .loses d full) (b .loses d full)) (λ fits. kept (λ h. omega arith)))
+    (λ d. by-cases (decLt (capacityOf (rowOf c 0)) (heldAt s 0 + rowOf c 0 .produce))
+    (λ full. lost-only (a .clock ∙ sym (b .clock)) (a .loses d full) (b .loses d full))
+    (λ fits. kept (λ h. omega arith)))
     (λ rests. kept (λ d. absurd (rests d)))
   where
     kept : (Due c s → Fits c s) → (u ≡ v) × (m ≡ n)

@@ -17,7 +17,7 @@ use Rattle.chain.specs.declared.Chain.{Chain}
 use Rattle.sizing.specs.Accepted.{Accepted}
 use Rattle.state.specs.State.{freshRun}
 use Rattle.state.specs.declared.Run.{Run}
-use Rattle.instants.specs.Follows.{Follows, Many, Instants, many-more, many-last, instants-many}
+use Rattle.instants.specs.Follows.{Follows, Many, many-more, many-last, instants-many}
 use Rattle.instants.specs.Fresh.{fresh-rests}
 use Rattle.instants.specs.declared.Ticked.{Ticked}
 use Rattle.losses.specs.declared.Losses.{Losses}

@@ -11,7 +11,7 @@
 use mathlib.Core.Path.{_≡_, refl, sym, ap, subst, _∙_}
 use mathlib.Core.Logic.{_⊎_, inl, inr, ⊎-elim, by-cases}
 use mathlib.Core.Bool.{Bool, true, false, cond}
-use Prim.Native.Nat.{ℕ, zero, suc, _+_, _≤_, _<_}
+use Prim.Native.Nat.{ℕ, zero, suc, _≤_, _<_}
 use native.Mathlib.Decide.{decLt}
 use native.Mathlib.Omega.{arith}
 use lib.Dec.{eqb}
@@ -35,7 +35,7 @@ use Rattle.recordings.specs.Runs.{rec-clean-or, rec-unclean-undated, rec
 use Rattle.recordings.specs.Cases.{loss-cases, rec-begun-cases, rec-tick-begun, rec-tick-ends, rec-tick-works}
 use Rattle.recordings.specs.Kept.{SourceLeads, begun-leads, work-leads, tick-leads, ticks-lead}
 use Rattle.recordings.specs.Trace.{marked}
-use Rattle.recordings.specs.declared.RecordOutcome.the-variants.{Clean, NoDeadline, ListFull}
+use Rattle.recordings.specs.declared.RecordOutcome.the-variants.{Clean, NoDeadline}
 use Rattle.recordings.specs.declared.Recorded.{Recorded}
 
 -- 13 is no overflow
@@ -80,7 +80,9 @@ module _ (c : Chain) (s : Run) (l : Losses) where
   -- the source's step and 13
   begun-same : (sourced c s .outcome ≡ plain.Clean) ⊎ (256 ≤ l .count) → recBegun c s l ≡ recorded c l (begun c s)
   unfolding recBegun begun recSourced recorded
-  begun-same h = recorded-onward c l (sourced c s) _ _ (λ t q e. ⊎-elim (λ z. absurd (unclean-overflow (sym e ∙ z))) (λ m. m) h) (λ z. by (sourced c s .run) (eqb (lacking c (sourced c s .run) .number) 0))
+  begun-same h = recorded-onward c l (sourced c s) _ _
+      (λ t q e. ⊎-elim (λ z. absurd (unclean-overflow (sym e ∙ z))) (λ m. m) h)
+      (λ z. by (sourced c s .run) (eqb (lacking c (sourced c s .run) .number) 0))
     where
       by : (u : Run) (b : Bool)
           → cond b (recClean u l) (recUndated s l (s .clock) (lacking c u .place)) ≡ recorded c l (cond b (clean u) (undated s (s .clock) (lacking c u .place)))
@@ -122,7 +124,7 @@ module _ (c : Chain) where
   -- so many ticks, up to an overflow for which the list has room
   pub ticks-same : (T : ℕ) (s : Run) (l : Losses) → ((t q : ℕ) → ticks c T s .outcome ≡ plain.Overflowed t q → 256 ≤ l .count) → recTicks c T s l ≡ recorded c l (ticks c T s)
   unfolding recorded
-  ticks-same zero s l full = rec-ticks-none c s l ∙ sym (recorded-clean c l (ticks c 0 s) (ap (λ (x : Ticked). x .outcome) (ticks-none c s)) ∙ ap (λ (x : Ticked). recClean (x .run) l) (ticks-none c s))
+  ticks-same zero s l full = rec-ticks-none c s l ∙ ap (λ (x : Ticked). recorded c l x) (sym (ticks-none c s))
   ticks-same (suc T) s l full =
       rec-ticks-suc c T s l
       ∙ ap (λ (x : Recorded). recOnward x (recTicks c T)) (tick-same c s l (sourced-fine s l ends))
@@ -170,7 +172,9 @@ module _ {c : Chain} {s : Run} (f : Filled c s) {l : Losses} (k : Listed l) (roo
   source-drops : (sourced c s .outcome ≡ plain.Clean → ⊥) → TakenBack l (s .clock) 0 s (recTick c s l) ⊎ NextLoss c l (s .clock) 0 (recTick c s l)
   unfolding recSourced
   source-drops n = ⊎-elim
-      (λ z. inr (subst (NextLoss c l (s .clock) 0) (sym (rec-tick-works c s l z)) (next-goes (noted-after z) (work-leads (b .filled) (b .leads .listed) (chosen c u) (chosen-low c u) (chosen-over c u) .leads .goes))))
+      (λ z.
+      let on = work-leads (b .filled) (b .leads .listed) (chosen c u) (chosen-low c u) (chosen-over c u) in
+      inr (subst (NextLoss c l (s .clock) 0) (sym (rec-tick-works c s l z)) (next-goes (noted-after z) (on .leads .goes))))
       (λ m. inl (subst (TakenBack l (s .clock) 0 s) (sym (rec-tick-ends c s l m)) (taken m)))
       (rec-clean-or (recBegun c s l .outcome))
     where
@@ -220,7 +224,9 @@ first-loss {c} zero {s} f k room t q e = absurd (unclean-overflow (sym e ∙ ap 
 first-loss {c} (suc T) {s} f {l} k room t q e = ⊎-elim
     (λ z. rw (goes z, rec-ticks-suc c T s l ∙ rec-goes z) (first-loss T (tick-step f z .filled) k room t q (ap (λ (x : Ticked). x .outcome) (sym (goes z)) ∙ e)))
     (λ n. rw (stops n) (⊎-elim
-    (λ a. inl (record { node = a .node; source = a .source; is = rec-ticks-suc c T s l ∙ ap (λ (x : Recorded). recOnward x (recTicks c T)) (a .is) ∙ rec-onward-stops _ (recTicks c T) rec-unclean-undated }))
+    (λ a.
+    let ends = ap (λ (x : Recorded). recOnward x (recTicks c T)) (a .is) ∙ rec-onward-stops _ (recTicks c T) rec-unclean-undated in
+    inl (record { node = a .node; source = a .source; is = rec-ticks-suc c T s l ∙ ends }))
     (λ a. inr (next-stays f k room T t q a))
     (tick-loses f k room t q (ap (λ (x : Ticked). x .outcome) (sym (stops n)) ∙ e))))
     (clean-or (tick c s .outcome))

@@ -4,8 +4,7 @@
 --   recFinishTrace c s l       the firing that is finished in s, if it takes effect, lost or not
 --   recTickTrace c s l         the firings of one tick
 --   recTrace c T s l           the firings of T ticks, as far as they are clean
-use mathlib.Core.Bool.{cond}
-use mathlib.Core.List.{List, [], _∷_, _++_, map}
+use mathlib.Core.List.{List, [], _++_, map}
 use Prim.Native.Nat.{ℕ, zero, suc}
 use Rattle.chain.specs.declared.Chain.{Chain}
 use Rattle.state.specs.Checks.{cramped}

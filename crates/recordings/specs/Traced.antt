@@ -8,7 +8,7 @@
 --   rec-rising                 the instants never fall
 --   rec-within                 and no queue passes its capacity
 use mathlib.Core.Path.{_≡_, refl, sym, ap, subst, _∙_}
-use mathlib.Core.List.{List, [], _∷_, _++_}
+use mathlib.Core.List.{List, []}
 use Prim.Native.Nat.{ℕ, suc, _+_, _*_, _≤_, _<_}
 use native.Mathlib.Omega.{arith}
 use lib.ListN.{length, getD}
@@ -18,15 +18,13 @@ use Rattle.chain.specs.declared.Chain.{Chain}
 use Rattle.sizing.specs.Sizes.{start, capacityOf}
 use Rattle.sizing.specs.Accepted.{Accepted}
 use Rattle.state.specs.State.{freshRun, countAt, heldAt, fresh-count}
-use Rattle.state.specs.Fired.{BalanceWith}
 use Rattle.state.specs.declared.Run.{Run}
 use Rattle.history.specs.History.{nodes, times}
 use Rattle.traces.specs.Trace.{resting}
 use Rattle.traces.specs.Rising.{Rising}
-use Rattle.losses.specs.Losses.{noLoss, emptyLosses, entryAt, entriesOf, lost, empty-entries}
+use Rattle.losses.specs.Losses.{noLoss, emptyLosses, entryAt, entriesOf, lost}
 use Rattle.losses.specs.declared.Loss.{Loss}
-use Rattle.losses.specs.declared.Losses.{Losses}
-use Rattle.recordings.specs.Steps.{recInstants, recTicks}
+use Rattle.recordings.specs.Steps.{recInstants}
 use Rattle.recordings.specs.Runs.{rec-run-is-ticks}
 use Rattle.recordings.specs.Marked.{Marked, firings, recAfter, EachFair, lossesOf, marked-counted, marked-within}
 use Rattle.recordings.specs.Trace.{recTrace}

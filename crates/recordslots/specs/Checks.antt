@@ -3,13 +3,11 @@
 --   list-alike, rec-state-alike
 --                              so 17 says the same of them, and of states and chains that differ in slots past n only
 use mathlib.Core.Path.{_≡_, ap, ap₂, _∙_}
-use mathlib.Core.List.{List}
 use Prim.Native.Nat.{ℕ, suc, _+_, _*_, _<_}
 use native.Mathlib.Omega.{arith}
 use lib.Dec.{eqb, leb, ltb}
 use Rattle.words.specs.Table.{tab, tab-alike}
 use Rattle.chain.specs.Refusals.{test, first, orElse}
-use Rattle.chain.specs.declared.Refusal.{Refusal}
 use Rattle.chain.specs.declared.Chain.{Chain}
 use Rattle.sizing.specs.Sizes.{start}
 use Rattle.state.specs.Checks.{brokenUnless, queueTest, putIn}

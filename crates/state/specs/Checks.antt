@@ -56,7 +56,7 @@ use Rattle.sizing.specs.Checks.{limit}
 use Rattle.sizing.specs.Accepted.{run-accepts}
 use Rattle.sizing.specs.Plan.{Plans, RunPlans}
 use Rattle.state.specs.State.{countAt, heldAt, doneAt}
-use Rattle.state.specs.Fired.{Balance, Over, Room}
+use Rattle.state.specs.Fired.{Over, Room}
 use Rattle.state.specs.declared.Run.{Run}
 
 -- a queue's balance is broken, it holds more than its capacity, or its consumer has work done of e or more
