@@ -7,20 +7,27 @@
 --   one-record-only            there is at most one such x
 --   is-one-record, rec-tick-exactly
 --                              of a state that a step may be made in, and a list of 256 slots, the tick is that one
---   source-full-exactly, finish-full-exactly
---                              so 15 is said exactly where the list is full and a production does not fit, the source's or a finished firing's
---   rec-lacks-exactly          13 exactly where a node lacks its deadline after a source's step that does not find the list full
+--   FullTick c s l t q, LacksTick c s l i
+--                              the conditions of 15 at a finish, and of 13
+--   one-full, one-undated, one-undated-stays, one-full-leaves
+--                              what 13 and 15 say and leave
+--   rec-full-exactly, rec-lacks-exactly, rec-clean-exactly
+--                              15 is said exactly where the list is full and a production does not fit, 13 exactly where a node lacks its deadline after a source's step
+--                              that does not find the list full, and a tick is clean exactly elsewhere
 --   RecThen c s l R            R holds of the state and the list that a clean tick of s and l leaves
 --   RecTicksTo c T s l x       T ticks of s and l, as far as they are clean, end with x
 --   rec-ticks-to-only, rec-ticks-exactly
 --                              there is at most one such x, and so many ticks end with it
+--   rec-ticks-full             15 of so many ticks leaves a full list, and a state in which the production does not fit
 use mathlib.Core.Path.{_≡_, refl, sym, ap, subst, _∙_}
 use mathlib.Core.Logic.{_↔_, _⊎_, inl, inr, ⊎-elim}
+use mathlib.Core.List.{List}
 use Prim.Native.Nat.{ℕ, zero, suc, _+_, _≤_, _<_}
 use native.Mathlib.Omega.{arith}
+use lib.ListN.{getD}
 use Rattle.chain.specs.Record.{workOf}
 use Rattle.chain.specs.declared.Chain.{Chain}
-use Rattle.state.specs.State.{doneAt}
+use Rattle.state.specs.State.{heldAt, doneAt}
 use Rattle.state.specs.Fired.{Over, Room}
 use Rattle.state.specs.declared.Run.{Run}
 use Rattle.instants.specs.Steps.{lacking, chosen, worked}
@@ -274,6 +281,16 @@ module _ {c : Chain} {s : Run} {l : Losses} {x : Recorded} (h : OneRecord c s l 
   one-undated-stays t i = four (λ y. y .outcome ≡ NoDeadline t i → (y .run ≡ s) × (y .losses ≡ l))
       (λ a e. absurd (full-undated e)) (λ j a e. (refl, refl)) (λ u v m j b f w e. absurd (full-undated e)) (λ u m b z e. absurd (rec-unclean-undated (sym e ∙ z .is)))
 
+-- 15 leaves a full list, and a state in which the production does not fit
+pub one-full-leaves : {c : Chain} {s : Run} {l : Losses} {x : Recorded} → 0 < c .n → OneRecord c s l x → (t q : ℕ) → x .outcome ≡ ListFull t q → (256 ≤ x .losses .count) × Cramped c (x .run) q
+one-full-leaves {c} {s} some h t q = four h (λ y. y .outcome ≡ ListFull t q → (256 ≤ y .losses .count) × Cramped c (y .run) q)
+    (λ a e. (a .holds, subst (Cramped c s) (ap recAtOf e) (some, a .spills)))
+    (λ i a e. absurd (full-undated (sym e)))
+    (λ u v m j b f w e.
+    let same : heldAt v (suc j) ≡ heldAt u (suc j) = ap (λ (x : List ℕ). getD x (suc j) 0) (w .held) in
+    (f .holds, subst (Cramped c v) (ap recAtOf e) (f .spills .0, omega (arith, f .spills .1, same))))
+    (λ u m b z e. absurd (rec-unclean-full (sym e ∙ z .is)))
+
 -- "where the list holds 256, a production that doesn't fit gives 15, and 15 comes only so"; and 13
 module _ {c : Chain} {s : Run} (f : Filled c s) {l : Losses} (k : Listed l) where
   pub rec-full-exactly : (t q : ℕ) → (recTick c s l .outcome ≡ ListFull t q) ↔ ((((t ≡ s .clock) × (q ≡ 0)) × FullAtSource c s l) ⊎ FullTick c s l t q)
@@ -370,3 +387,13 @@ module _ {c : Chain} where
 
   pub rec-ticks-exactly : (T : ℕ) {s : Run} → Filled c s → {l : Losses} → Listed l → (x : Recorded) → (recTicks c T s l ≡ x) ↔ RecTicksTo c T s l x
   rec-ticks-exactly T {s} f {l} k x = (λ e. subst (RecTicksTo c T s l) e (are-many T f k), λ h. rec-ticks-to-only c T s l (recTicks c T s l) x (are-many T f k) h)
+
+-- 15 of so many ticks leaves that, too
+to-full : (c : Chain) (T : ℕ) (s : Run) (l : Losses) (x : Recorded) (t q : ℕ) → 0 < c .n → x .outcome ≡ ListFull t q → RecTicksTo c T s l x → (256 ≤ x .losses .count) × Cramped c (x .run) q
+unfolding RecTicksTo
+to-full c zero s l x t q some e = λ h. absurd (rec-unclean-full (sym e ∙ ap (λ (y : Recorded). y .outcome) h))
+to-full c (suc T) s l x t q some e = ⊎-elim (λ a. one-full-leaves some (a .tick) t q e) (λ a. to-full c T (a .next) (a .list) x t q some e (a .holds))
+
+pub rec-ticks-full : {c : Chain} (T : ℕ) {s : Run} → Filled c s → {l : Losses} → Listed l → (t q : ℕ) → recTicks c T s l .outcome ≡ ListFull t q
+    → (256 ≤ recTicks c T s l .losses .count) × Cramped c (recTicks c T s l .run) q
+rec-ticks-full {c} T {s} f {l} k t q e = to-full c T s l (recTicks c T s l) t q (f .chain .chain .count .0) e (rec-ticks-exactly T f k (recTicks c T s l) .0 refl)

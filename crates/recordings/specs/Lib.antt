@@ -11,4 +11,5 @@ pub mod Traced
 pub mod Same
 pub mod Once
 pub mod Exactly
+pub mod Fresh
 pub mod Figures
