@@ -26,8 +26,8 @@ use Rattle.sizing.specs.Checks.{Enough}
 use Rattle.sizing.specs.Accepted.{Accepted}
 use Rattle.state.specs.State.{freshRun}
 use Rattle.state.specs.declared.Run.{Run}
-use Rattle.instants.specs.Steps.{kindOf, tickOf, atOf, overflowed, undated, clean, onward, chosen, tick, ticks, instants}
-use Rattle.instants.specs.Runs.{ticks-none, ticks-suc, unclean-overflow, unclean-undated}
+use Rattle.instants.specs.Steps.{tickOf, atOf, overflowed, undated, clean, onward, chosen, tick, ticks, instants}
+use Rattle.instants.specs.Runs.{ticks-none, ticks-suc, unclean-overflow, unclean-undated, overflow-undated}
 use Rattle.instants.specs.Kept.{tick-running}
 use Rattle.instants.specs.Filled.{Running, running-filled}
 use Rattle.instants.specs.Fresh.{fresh-running, run-is-ticks}
@@ -81,10 +81,6 @@ clean-only {c} {s} t v a b =
     let e : a .after ≡ b .after = source-only (a .after) (b .after) (a .source) (b .source) in
     let f : a .worker ≡ b .worker = sym (works-is c (b .after) (a .worker) .1 (subst (λ (x : Run). Works c x (a .worker)) e (a .works))) ∙ works-is c (b .after) (b .worker) .1 (b .works) in
     work-only (subst (λ (i : ℕ). WorkOnce c (b .after) i t) f (subst (λ (x : Run). WorkOnce c x (a .worker) t) e (a .work))) (b .work)
-
--- outcomes of two kinds differ
-overflow-undated : {t q a i : ℕ} → Overflowed t q ≡ NoDeadline a i → ⊥
-overflow-undated e = let z : _≡_ {A = ℕ} 1 2 = ap kindOf e in absurd (omega arith)
 
 -- the three exclude each other, whatever they end with
 module _ {c : Chain} {s : Run} where

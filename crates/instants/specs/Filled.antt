@@ -4,23 +4,22 @@
 --   Running c s                an accepted chain, and a state of it that passes 17
 --   running-filled, -balanced, filled-running
 --                              which says both
+--   filled-slots               a filled state has a slot for each node and queue
 --   fired-filled, -balanced, -running
 --                              a firing of a node that is over threshold keeps each of them, of Filled and Running with room
---   room-of                    a queue that is not full for N_i has room for it
 --   filled-as                  what a step needs says nothing of the clock or the counts
 --   balanced-as, lacking-as, chosen-as
 --                              a state with the same counts and contents has the same balance, 13 and choice
 --   cramped-as                 one with the same contents has the same room
 use mathlib.Core.Path.{_≡_, refl, sym, ap, subst, _∙_}
 use mathlib.Core.Logic.{by-cases}
-use mathlib.Core.Bool.{Bool, false, _&&_}
+use mathlib.Core.Bool.{_&&_}
 use mathlib.Core.List.{List}
 use Prim.Native.Nat.{ℕ, zero, suc, _+_, _≤_, _<_}
 use native.Mathlib.Decide.{ℕ-discrete}
 use native.Mathlib.Omega.{arith}
 use lib.Dec.{ltb, leb}
 use lib.ListN.{length, getD}
-use Rattle.chain.specs.Refusals.{test}
 use Rattle.chain.specs.Record.{rowOf, workOf}
 use Rattle.chain.specs.Sound.{Sound}
 use Rattle.chain.specs.declared.Chain.{Chain}
@@ -28,7 +27,7 @@ use Rattle.sizing.specs.Sizes.{capacityOf}
 use Rattle.sizing.specs.Accepted.{Accepted}
 use Rattle.state.specs.State.{heldAt, doneAt}
 use Rattle.state.specs.Fired.{fired, Over, Room, Slots, Balance, over-enough, held-output, held-input, held-other, balance-kept}
-use Rattle.state.specs.Checks.{over, cramped, StateSound, room-silent}
+use Rattle.state.specs.Checks.{over, cramped, StateSound}
 use Rattle.state.specs.declared.Run.{Run}
 use Rattle.slots.specs.Runs.{Whole, fired-whole}
 use Rattle.deadline.specs.Deadline.{deadline}
@@ -62,20 +61,21 @@ module _ {c : Chain} {s : Run} where
   pub filled-running : Filled c s → Balanced c s → Running c s
   filled-running f b = record { chain = f .chain; whole = f .whole; state = λ j l. ((b j l, f .within j l), f .below j l) }
 
+-- a filled state has a slot for each node and queue
+pub filled-slots : {c : Chain} {s : Run} → Filled c s → Slots (c .n) s
+filled-slots f = record { counts = omega (arith, f .whole .counts, f .chain .chain .count .1); held = omega (arith, f .whole .held, f .chain .chain .count .1) }
+
 -- a firing of a node
 module _ {c : Chain} {s : Run} (f : Filled c s) (i : ℕ) (o : Over c s i) where
   sound : Sound c
   sound = f .chain .chain
-
-  slots : Slots (c .n) s
-  slots = record { counts = omega (arith, f .whole .counts, sound .count .1); held = omega (arith, f .whole .held, sound .count .1) }
 
   -- it finds what it takes
   enough : (j : ℕ) → j < c .n → i ≡ suc j → rowOf c j .consume ≤ heldAt s j
   enough j l e = over-enough sound s j l (subst (Over c s) e o)
 
   pub fired-balanced : Balanced c s → Balanced c (fired c s i)
-  fired-balanced b j l = balance-kept c s i j slots l (enough j l) (b j l)
+  fired-balanced b j l = balance-kept c s i j (filled-slots f) l (enough j l) (b j l)
 
   -- with room, it leaves no queue above its capacity
   module _ (m : Room c s i) where
@@ -103,10 +103,6 @@ module _ {c : Chain} {s : Run} (f : Filled c s) (i : ℕ) (o : Over c s i) where
 -- so a state that passes 17 passes it after the firing
 pub fired-running : {c : Chain} {s : Run} → Running c s → (i : ℕ) → Over c s i → Room c s i → Running c (fired c s i)
 fired-running r i o m = filled-running (fired-filled (running-filled r) i o m) (fired-balanced (running-filled r) i o (running-balanced r))
-
--- a queue that is not full for N_i has room for it
-pub room-of : (c : Chain) (s : Run) (i : ℕ) → cramped c s i ≡ false → Room c s i
-room-of c s i e = room-silent c s i .0 (ap (λ (b : Bool). test 12 i b .number) e)
 
 -- equal lists have equal slots
 at : {a b : List ℕ} → a ≡ b → (j : ℕ) → getD a j 0 ≡ getD b j 0

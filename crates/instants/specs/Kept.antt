@@ -41,12 +41,12 @@ use Rattle.chain.specs.declared.Chain.{Chain}
 use Rattle.sizing.specs.Checks.{limit}
 use Rattle.state.specs.State.{countAt, heldAt, doneAt}
 use Rattle.state.specs.Fired.{fired, Over, Room, May, count-fired, count-other, held-other}
-use Rattle.state.specs.Checks.{over, over-true, cramped}
+use Rattle.state.specs.Checks.{over, over-true, cramped, cramped-room}
 use Rattle.state.specs.declared.Run.{Run}
 use Rattle.instants.specs.Best.{chosen-best}
 use Rattle.instants.specs.Runs.{unclean-overflow, unclean-undated, onward-goes, onward-stops, onward-cases, onward-then}
 use Rattle.instants.specs.Filled.{Filled, Balanced, Running, running-filled, running-balanced, filled-running, fired-filled, fired-balanced}
-use Rattle.instants.specs.Filled.{room-of, balanced-as, filled-as, cramped-as}
+use Rattle.instants.specs.Filled.{balanced-as, filled-as, cramped-as}
 use Rattle.instants.specs.Steps.{clean, overflowed, undated, onward, goes, divides, sourced, lacking, begun, chosen, worked, endedIn, ended, finish, finished, advanced, tick, withDone}
 use Rattle.instants.specs.declared.Outcome.{Outcome}
 use Rattle.instants.specs.declared.Outcome.the-variants.{Clean, Overflowed, NoDeadline}
@@ -87,7 +87,7 @@ sourced-stays c s = source-cases c s (λ x. (x .outcome ≡ Clean → ⊥) → x
 
 -- the source may fire where its production fits
 pub source-may : (c : Chain) (s : Run) → countAt s 0 ≢ limit → cramped c s 0 ≡ false → May c s 0
-source-may c s n e = record { node = omega arith; countable = n; over = tt; room = room-of c s 0 e }
+source-may c s n e = record { node = omega arith; countable = n; over = tt; room = cramped-room c s 0 .0 e }
 
 -- what the source's step leaves where it is clean
 pub record SourceStep (c : Chain) (s u : Run) : Type 0 where
@@ -114,7 +114,7 @@ module _ {c : Chain} {s : Run} (f : Filled c s) where
   }
 
   pub sourced-clean : sourced c s .outcome ≡ Clean → SourceStep c s (sourced c s .run)
-  sourced-clean = source-cases c s (λ x. x .outcome ≡ Clean → SourceStep c s (x .run)) (λ e h. absurd (unclean-overflow h)) (λ e h. source-fires (room-of c s 0 e)) (λ h. source-rests)
+  sourced-clean = source-cases c s (λ x. x .outcome ≡ Clean → SourceStep c s (x .run)) (λ e h. absurd (unclean-overflow h)) (λ e h. source-fires (cramped-room c s 0 .0 e)) (λ h. source-rests)
 
 pub source-running : {c : Chain} {s u : Run} → Running c s → SourceStep c s u → Running c u
 source-running r k = filled-running (k .filled) (k .balanced (running-balanced r))
@@ -226,7 +226,7 @@ unfolding worked
 finish-over c u j o = o
 
 finish-room : (c : Chain) (u : Run) (j : ℕ) → cramped c (worked u (suc j)) (suc j) ≡ false → Room c (withDone (worked u (suc j)) j 0) (suc j)
-finish-room c u j e = room-of c (withDone (worked u (suc j)) j 0) (suc j) (cramped-as c (worked u (suc j)) (withDone (worked u (suc j)) j 0) (suc j) refl ∙ e)
+finish-room c u j e = cramped-room c (withDone (worked u (suc j)) j 0) (suc j) .0 (cramped-as c (worked u (suc j)) (withDone (worked u (suc j)) j 0) (suc j) refl ∙ e)
 
 module _ {c : Chain} {u : Run} (f : Filled c u) where
   below-else : (i j : ℕ) → j < c .n → i ≢ suc j → doneAt (worked u i) j < workOf c j

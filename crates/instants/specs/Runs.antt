@@ -1,6 +1,7 @@
 -- A deadline run by instants and by ticks (01, Firing).
 --   onward-clean, -none, -then what follows a clean state, nothing that follows, and one thing after the other
---   unclean-overflow, -undated no outcome that ends a run is clean
+--   unclean-overflow, -undated, overflow-undated
+--                              no outcome that ends a run is clean, and an overflow is not 13
 --   clean-or, onward-goes, onward-stops, onward-cases
 --                              an outcome is clean or not; what follows one that is, nothing follows one that is not, and what goes on was clean
 --   ticks-none, ticks-suc      no tick, and one more
@@ -49,6 +50,10 @@ unclean-overflow e = let z : _≡_ {A = ℕ} 1 0 = ap kindOf e in absurd (omega 
 
 pub unclean-undated : {t i : ℕ} → NoDeadline t i ≡ Clean → ⊥
 unclean-undated e = let z : _≡_ {A = ℕ} 2 0 = ap kindOf e in absurd (omega arith)
+
+-- and outcomes of two kinds differ
+pub overflow-undated : {t q a i : ℕ} → Overflowed t q ≡ NoDeadline a i → ⊥
+overflow-undated e = let z : _≡_ {A = ℕ} 1 2 = ap kindOf e in absurd (omega arith)
 
 -- an outcome is clean, or it is not
 pub clean-or : (o : Outcome) → (o ≡ Clean) ⊎ (o ≡ Clean → ⊥)

@@ -15,17 +15,17 @@ use Prim.Native.Nat.{ℕ, zero, suc, _+_, _%_, _≤_, _<_, _∣_}
 use native.Mathlib.Nat.{dvd-iff-mod-eq-zero}
 use native.Mathlib.Omega.{arith}
 use lib.Seq.{ext-getD}
-use Rattle.chain.specs.Tests.{equal-true, below-true, and-true}
+use Rattle.chain.specs.Tests.{equal-true}
 use Rattle.chain.specs.Record.{rowOf}
 use Rattle.chain.specs.declared.Chain.{Chain}
 use Rattle.sizing.specs.Sizes.{capacityOf}
 use Rattle.state.specs.State.{countAt, heldAt, same-run}
 use Rattle.state.specs.Fired.{fired, count-fired, count-other, held-output, held-other}
-use Rattle.state.specs.Checks.{cramped}
+use Rattle.state.specs.Checks.{cramped, cramped-is, cramped-room}
 use Rattle.state.specs.declared.Run.{Run}
 use Rattle.slots.specs.Runs.{Whole, fired-whole}
 use Rattle.instants.specs.Steps.{clean, overflowed, divides, sourced}
-use Rattle.instants.specs.Filled.{Filled, room-of}
+use Rattle.instants.specs.Filled.{Filled}
 use Rattle.instants.specs.Runs.{unclean-overflow}
 use Rattle.instants.specs.declared.Ticked.{Ticked}
 
@@ -50,8 +50,7 @@ module _ {c : Chain} {s : Run} (f : Filled c s) where
   some-queue = f .chain .chain .count .0
 
   full-is : (cramped c s 0 ≡ true) ↔ Full c s
-  unfolding cramped
-  full-is = Iff·trans (and-true (below-true 0 (c .n)) (below-true _ _)) (λ h. h .1, λ h. (some-queue, h))
+  full-is = Iff·trans (cramped-is c s 0) (λ h. h .1, λ h. (some-queue, h))
 
   -- the three ways in which the source's step ends
   pub source-three : (P : Ticked → Type 0) → (Due c s → Full c s → P (overflowed s (s .clock) 0)) → (Due c s → Fits c s → P (clean (fired c s 0))) → ((Due c s → ⊥) → P (clean s)) → P (sourced c s)
@@ -60,7 +59,7 @@ module _ {c : Chain} {s : Run} (f : Filled c s) where
     where
       by : (d x : Bool) → divides (c .period) (s .clock) ≡ d → cramped c s 0 ≡ x → P (cond d (cond x (overflowed s (s .clock) 0) (clean (fired c s 0))) (clean s))
       by true true e f = spills (divides-is (c .period) (s .clock) .0 e) (full-is .0 f)
-      by true false e f = fires (divides-is (c .period) (s .clock) .0 e) (room-of c s 0 f some-queue)
+      by true false e f = fires (divides-is (c .period) (s .clock) .0 e) (cramped-room c s 0 .0 f some-queue)
       by false x e f = rests (λ d. true≢false (sym (divides-is (c .period) (s .clock) .1 d) ∙ e))
 
   -- a firing of the source is not nothing

@@ -1,13 +1,13 @@
 -- 17 of a list of losses (02, Item 2), before the balance of any queue.
 --   longCheck l                the list is longer than 256
---   strayTest l n k, strayCheck n l
+--   strayTest n l k, strayCheck n l
 --                              entry k names no queue of a chain of n, and the first such
 --   listCheck n l              both
---   long-exact, -silent, stray-exact, -silent, -only
---                              so does each of the two
 --   Stray, Named n l           one of the entries names no queue, or each names one
 --   LongOrStray n l            17 of the list in words
---   list-exact, -silent, -only it speaks exactly then, at place 0, is silent exactly elsewhere, and has its own number
+--   long-exact, -silent, stray-silent, -only, -exact
+--                              each of the two speaks exactly where it should, and is silent elsewhere
+--   list-exact, -silent, -only 17 of the list speaks exactly then, at place 0, is silent exactly elsewhere, and has its own number
 use mathlib.Core.Path.{_≡_, sym, _∙_}
 use mathlib.Core.Logic.{_↔_, _⊎_, inl, inr, ⊎-elim, Iff·trans, Iff·and, Iff·rfl}
 use Prim.Native.Nat.{ℕ, _≤_, _<_}
@@ -75,16 +75,13 @@ module _ (n : ℕ) (l : Losses) where
 
   pub stray-exact : (L : ℕ) → (strayCheck n l ≡ refused 17 L) ↔ (Stray n l × (L ≡ 0))
   unfolding strayCheck
-  stray-exact L = (out, back)
+  stray-exact L = (says L, back)
     where
       says : (P : ℕ) → first (tab (l .count) (strayTest n l)) ≡ refused 17 P → Stray n l × (P ≡ 0)
       says P e =
           let f = lowest-is 17 P (λ z. omega arith) (strayTest n l) (l .count) .0 e in
           let s = entry-says (f .at) P .0 (f .says) in
           (record { entry = f .at; listed = f .inside; names = s .0 }, s .1)
-
-      out : first (tab (l .count) (strayTest n l)) ≡ refused 17 L → Stray n l × (L ≡ 0)
-      out = says L
 
       back : Stray n l × (L ≡ 0) → first (tab (l .count) (strayTest n l)) ≡ refused 17 L
       back h =

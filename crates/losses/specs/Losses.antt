@@ -2,17 +2,16 @@
 --   longestList                how many entries it may have
 --   loss t q p, noLoss         an entry, and a slot that holds none
 --   emptyLosses                no losses
---   entryAt l k, entriesOf l   entry k, and the entries in order
+--   entryAt l k, entriesIn l   entry k, and the entries in order
 --   noted l t q p              the list with one entry more
 --   lostIn j h, lost l j       the tokens of the entries of h, and of the list, that name queue j
---   empty-entries              the empty list has none
 --   Listed l, listed-empty     a list of 256 slots, of which no more are entries; the empty list is one
---   Noted l t q p m            m is l with the entry (t, q, p) more, slot by slot
---   noted-only, is-noted       no other list is that, and `noted` makes it; listed-noted: which has 256 slots again
---   noted-entries              so the entries are those before, and this one after them
---   Goes l m                   m's first entries are l's, and from m's last entry on its slots are l's
---   goes-refl, -trans, goes-noted
---                              a list goes on from itself, from list to list, and by one entry
+--   Noted l t q p m            m is l with the entry (t, q, p) more, slot by slot; noted-only: no other list is that
+--   Extends l m                m's first entries are l's, and from m's last entry on its slots are l's
+--   extends-refl, -trans, -noted
+--                              a list extends itself, from list to list, and by one entry
+--   is-noted, listed-noted, noted-entries
+--                              what `noted` makes is such a list, has 256 slots again, and has the entries before and then this one
 --   lost-append, lost-noted    the tokens of entries one after the other, and with one entry more
 use mathlib.Core.Path.{_≡_, refl, sym, ap, _∙_}
 use mathlib.Core.Logic.{_≢_, by-cases}
@@ -46,8 +45,8 @@ emptyLosses = record { count = 0; entries = replicate 256 noLoss }
 abbrev pub entryAt : Losses → ℕ → Loss
 entryAt l k = getD (l .entries) k noLoss
 
-abbrev pub entriesOf : Losses → List Loss
-entriesOf l = tab (l .count) (entryAt l)
+abbrev pub entriesIn : Losses → List Loss
+entriesIn l = tab (l .count) (entryAt l)
 
 -- "its tick, queue and tokens go into a list"
 abbrev pub noted : Losses → ℕ → ℕ → ℕ → Losses
@@ -59,11 +58,7 @@ lostIn j [] = 0
 lostIn j (e ∷ h) = cond (eqb (e .queue) j) (e .tokens) 0 + lostIn j h
 
 abbrev pub lost : Losses → ℕ → ℕ
-lost l j = lostIn j (entriesOf l)
-
-pub empty-entries : entriesOf emptyLosses ≡ []
-unfolding tab
-empty-entries = refl
+lost l j = lostIn j (entriesIn l)
 
 -- a list of 256 slots, of which no more are entries
 pub record Listed (l : Losses) : Type 0 where
@@ -76,9 +71,7 @@ listed-empty = record { long = length-replicate {A = Loss} 256 noLoss; short = o
 -- m has one entry more than l, at its end; every other slot is as it was
 pub record Noted (l : Losses) (t q p : ℕ) (m : Losses) : Type 0 where
   pub count : m .count ≡ l .count + 1
-  pub tick : entryAt m (l .count) .tick ≡ t
-  pub queue : entryAt m (l .count) .queue ≡ q
-  pub tokens : entryAt m (l .count) .tokens ≡ p
+  pub entry : entryAt m (l .count) ≡ loss t q p
   pub others : (k : ℕ) → k ≢ l .count → entryAt m k ≡ entryAt l k
   pub long : length (m .entries) ≡ length (l .entries)
 
@@ -88,21 +81,21 @@ noted-only {l} {m = m} {n} a b = λ i. record { count = (a .count ∙ sym (b .co
   where
     same : m .entries ≡ n .entries
     same = ext-getD noLoss (m .entries) (n .entries) (a .long ∙ sym (b .long)) (λ k h. by-cases (ℕ-discrete k (l .count))
-        (λ e. rw e (λ i. loss ((a .tick ∙ sym (b .tick)) i) ((a .queue ∙ sym (b .queue)) i) ((a .tokens ∙ sym (b .tokens)) i)))
+        (λ e. rw e (a .entry ∙ sym (b .entry)))
         (λ ne. a .others k ne ∙ sym (b .others k ne)))
 
 -- m's first entries are l's, and the slots from m's last entry on are as they were
-pub record Goes (l m : Losses) : Type 0 where
+pub record Extends (l m : Losses) : Type 0 where
   pub more : l .count ≤ m .count
   pub before : (k : ℕ) → k < l .count → entryAt m k ≡ entryAt l k
   pub behind : (k : ℕ) → m .count ≤ k → entryAt m k ≡ entryAt l k
   pub long : length (m .entries) ≡ length (l .entries)
 
-pub goes-refl : (l : Losses) → Goes l l
-goes-refl l = record { more = omega arith; before = λ k h. refl; behind = λ k h. refl; long = refl }
+pub extends-refl : (l : Losses) → Extends l l
+extends-refl l = record { more = omega arith; before = λ k h. refl; behind = λ k h. refl; long = refl }
 
-pub goes-trans : {l m n : Losses} → Goes l m → Goes m n → Goes l n
-goes-trans a b = record {
+pub extends-trans : {l m n : Losses} → Extends l m → Extends m n → Extends l n
+extends-trans a b = record {
   more = omega (arith, a .more, b .more);
   before = λ k h. b .before k (omega (arith, a .more)) ∙ a .before k h;
   behind = λ k h. b .behind k h ∙ a .behind k (omega (arith, b .more));
@@ -114,8 +107,8 @@ module _ (l : Losses) (t q p : ℕ) where
   other : (i : ℕ) → i ≢ l .count → entryAt (noted l t q p) i ≡ entryAt l i
   other i ne = getD-set-other (l .entries) (l .count) i (loss t q p) noLoss ne
 
-  pub goes-noted : Goes l (noted l t q p)
-  goes-noted = record {
+  pub extends-noted : Extends l (noted l t q p)
+  extends-noted = record {
     more = omega arith;
     before = λ m h. other m (λ e. omega arith);
     behind = λ m h. other m (λ e. omega arith);
@@ -133,9 +126,7 @@ module _ {l : Losses} (k : Listed l) (room : l .count < 256) (t q p : ℕ) where
   pub is-noted : Noted l t q p (noted l t q p)
   is-noted = record {
     count = refl;
-    tick = ap (λ (e : Loss). e .tick) own;
-    queue = ap (λ (e : Loss). e .queue) own;
-    tokens = ap (λ (e : Loss). e .tokens) own;
+    entry = own;
     others = other l t q p;
     long = length-set (l .entries) (l .count) (loss t q p);
   }
@@ -143,7 +134,7 @@ module _ {l : Losses} (k : Listed l) (room : l .count < 256) (t q p : ℕ) where
   pub listed-noted : Listed (noted l t q p)
   listed-noted = record { long = length-set (l .entries) (l .count) (loss t q p) ∙ k .long; short = omega arith }
 
-  pub noted-entries : entriesOf (noted l t q p) ≡ entriesOf l ++ (loss t q p ∷ [])
+  pub noted-entries : entriesIn (noted l t q p) ≡ entriesIn l ++ (loss t q p ∷ [])
   noted-entries =
       tab-more (l .count) (entryAt (noted l t q p))
       ∙ (λ i. tab-alike (l .count) (entryAt (noted l t q p)) (entryAt l) (λ m h. other l t q p m (λ e. omega arith)) i ++ (own i ∷ []))
@@ -158,4 +149,4 @@ lost-append j (e ∷ g) h = omega (arith, lost-append j g h)
 pub lost-noted : {l : Losses} → Listed l → l .count < 256 → (t q p j : ℕ) → lost (noted l t q p) j ≡ lost l j + cond (eqb q j) p 0
 unfolding lostIn
 lost-noted {l} k room t q p j =
-    ap (lostIn j) (noted-entries k room t q p) ∙ lost-append j (entriesOf l) (loss t q p ∷ []) ∙ omega arith
+    ap (lostIn j) (noted-entries k room t q p) ∙ lost-append j (entriesIn l) (loss t q p ∷ []) ∙ omega arith

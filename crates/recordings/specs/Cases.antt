@@ -18,18 +18,17 @@ use Rattle.chain.specs.Record.{rowOf, workOf}
 use Rattle.chain.specs.declared.Chain.{Chain}
 use Rattle.state.specs.State.{doneAt}
 use Rattle.state.specs.Fired.{fired, Room}
-use Rattle.state.specs.Checks.{cramped}
+use Rattle.state.specs.Checks.{cramped, Cramped, cramped-is, cramped-room}
 use Rattle.state.specs.declared.Run.{Run}
 use Rattle.instants.specs.Steps.{overflowed, withDone, lacking, chosen, worked, finish}
 use Rattle.instants.specs.Filled.{Filled, cramped-as}
-use Rattle.instants.specs.Source.{Due, Full, Fits, source-three}
+use Rattle.instants.specs.Source.{Due, source-three}
 use Rattle.instants.specs.Kept.{finish-cases, worked-held, works-on, works-ends}
 use Rattle.instants.specs.declared.Ticked.{Ticked}
 use Rattle.losses.specs.Losses.{noted}
 use Rattle.losses.specs.declared.Losses.{Losses}
 use Rattle.recordings.specs.Steps.{recClean, recUndated, recFull, recOnward, dropped, lostFiring, recorded, recSourced, recBegun, recAdvanced, recFinished, recTick}
-use Rattle.recordings.specs.Drops.{Cramped, cramped-is, cramped-room}
-use Rattle.recordings.specs.Runs.{rec-onward-cases, rec-onward-goes, rec-onward-stops, rec-onward-then}
+use Rattle.recordings.specs.Runs.{rec-onward-elim, rec-onward-goes, rec-onward-stops, rec-onward-then}
 use Rattle.recordings.specs.declared.RecordOutcome.the-variants.{Clean}
 use Rattle.recordings.specs.declared.Recorded.{Recorded}
 
@@ -45,13 +44,15 @@ loss-cases c l s t q P drops stops = by (ltb (l .count) 256) refl
 
 -- the source's step: its production is lost, or would be with no room in the list, or it fires, or it rests
 pub source-four : {c : Chain} {s : Run} → Filled c s → (l : Losses) (P : Recorded → Type 0)
-    → (Due c s → Full c s → l .count < 256 → P (recClean (dropped c s 0) (noted l (s .clock) 0 (rowOf c 0 .produce))))
-    → (Due c s → Full c s → 256 ≤ l .count → P (recFull s l (s .clock) 0))
-    → (Due c s → Fits c s → P (recClean (fired c s 0) l))
+    → (Due c s → Cramped c s 0 → l .count < 256 → P (recClean (dropped c s 0) (noted l (s .clock) 0 (rowOf c 0 .produce))))
+    → (Due c s → Cramped c s 0 → 256 ≤ l .count → P (recFull s l (s .clock) 0))
+    → (Due c s → Room c s 0 → P (recClean (fired c s 0) l))
     → ((Due c s → ⊥) → P (recClean s l)) → P (recSourced c s l)
 unfolding recSourced recorded lostFiring
 source-four {c} {s} f l P drops stops fires rests = source-three f (λ x. P (recorded c l x))
-    (λ d h. loss-cases c l s (s .clock) 0 P (drops d h) (stops d h)) fires rests
+    (λ d h. let spills : Cramped c s 0 = (f .chain .chain .count .0, h) in loss-cases c l s (s .clock) 0 P (drops d spills) (stops d spills))
+    (λ d h. fires d (λ m. h))
+    rests
 
 -- one tick of work of N_i, and the effect of the firing that it finishes, if any
 module _ {c : Chain} {u : Run} (f : Filled c u) (l : Losses) (P : Recorded → Type 0) where
@@ -92,7 +93,7 @@ pub rec-begun-cases : (c : Chain) (s : Run) (l : Losses) (P : Recorded → Type 
     → (recSourced c s l .outcome ≡ Clean → Silent (lacking c (recSourced c s l .run)) → P (recClean (recSourced c s l .run) (recSourced c s l .losses)))
     → P (recBegun c s l)
 unfolding recBegun
-rec-begun-cases c s l P ends lacks goes = rec-onward-cases (recSourced c s l) _ P ends (λ z. by (eqb (lacking c (recSourced c s l .run) .number) 0) refl z)
+rec-begun-cases c s l P ends lacks goes = rec-onward-elim (recSourced c s l) _ P ends (λ z. by (eqb (lacking c (recSourced c s l .run) .number) 0) refl z)
   where
     u : Run
     u = recSourced c s l .run

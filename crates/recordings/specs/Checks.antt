@@ -2,40 +2,43 @@
 --   recAccounted c s l i       what queue i holds, what was taken from it, and the sum of its entries
 --   RecBalance c s l i         the balance with them
 --   recQueuesCheck c s l       17 of the queues, and recStateCheck c s l after 17 of the list
---   RecBroken, RecSteady, FirstRecBroken
---                              its reasons in words: a queue has one, or none, and the lowest that has one
+--   RecSteady, FirstRecBroken  a queue has none of its reasons, and the lowest that has one
 --   RecSound c s l             a state and a list that pass it
 --   rec-state-exact, -silent, -only
 --                              it speaks exactly under its condition, is silent exactly elsewhere, and has its own number
+--   rec-state-sums             ticks and tokens of entries are looked at through the sums alone
 --   Recording c s l            an accepted chain, and a whole state and a list that pass it
---   recording-is, recording-sound
---                              what the steps need of them, besides the balance
---   leads-recording            firings that lead from one leave one, if its work is below e
+--   recording-filled, filled-recording
+--                              what the steps need of them, and what 17 asks besides
+--   leads-recording            firings that lead from one to a state that the steps may be made in lead to one
 --   fresh-recording            a fresh start with an empty list is one
 --   rec-tick-recording, rec-ticks-recording
 --                              a tick that does not find the list full leaves one, and so do so many
---   full-refused               a list that was found full at a finish is refused next, with work done of e
-use mathlib.Core.Path.{_≡_, sym, _∙_}
+use mathlib.Core.Path.{_≡_, sym, ap, ap₂, _∙_}
 use mathlib.Core.Logic.{_↔_, _⊎_, Iff·trans, Iff·and}
 use mathlib.Core.List.{List}
 use Prim.Native.Nat.{ℕ, _+_, _≤_, _<_}
 use native.Mathlib.Nat.{add-zero}
 use native.Mathlib.Omega.{arith}
-use Rattle.words.specs.Table.{tab}
+use lib.Dec.{eqb, leb, ltb}
+use Rattle.words.specs.Table.{tab, tab-alike}
 use Rattle.chain.specs.Tests.{sum-iff}
-use Rattle.chain.specs.Refusals.{refused, first, orElse, Silent, or-says, or-silents, Only, only-or}
+use Rattle.chain.specs.Refusals.{refused, test, first, orElse, Silent, or-says, or-silents, Only, only-or}
+use Rattle.chain.specs.Record.{rowOf, workOf}
 use Rattle.chain.specs.declared.Refusal.{Refusal}
 use Rattle.chain.specs.declared.Chain.{Chain}
+use Rattle.onequeue.specs.Capacity.{capacity}
+use Rattle.onequeue.specs.Least.{least}
 use Rattle.sizing.specs.Accepted.{Accepted}
-use Rattle.state.specs.State.{freshRun}
-use Rattle.state.specs.Fired.{Slots, BalanceWith}
-use Rattle.state.specs.Checks.{queueTest, BrokenAt, SteadyAt, FirstBrokenAt, queues-exact, queues-silent, queues-only, putIn, accounted}
+use Rattle.state.specs.State.{freshRun, heldAt, doneAt}
+use Rattle.state.specs.Fired.{supplied, accounted, BalanceWith}
+use Rattle.state.specs.Checks.{brokenUnless, queueTest, SteadyAt, FirstBrokenAt, queues-exact, queues-silent, queues-only}
 use Rattle.state.specs.declared.Run.{Run}
 use Rattle.slots.specs.Runs.{Whole}
-use Rattle.instants.specs.Filled.{Filled, running-filled}
+use Rattle.instants.specs.Filled.{Filled, filled-slots, running-filled}
 use Rattle.instants.specs.Fresh.{fresh-running}
-use Rattle.losses.specs.Losses.{emptyLosses, lostIn, lost, Listed, listed-empty}
-use Rattle.losses.specs.Checks.{listCheck, LongOrStray, Named, list-exact, list-silent, list-only}
+use Rattle.losses.specs.Losses.{longestList, emptyLosses, entryAt, lostIn, lost, Listed, listed-empty}
+use Rattle.losses.specs.Checks.{strayTest, strayCheck, listCheck, LongOrStray, Named, list-exact, list-silent, list-only}
 use Rattle.losses.specs.declared.Losses.{Losses}
 use Rattle.recordings.specs.Steps.{recTick, recTicks}
 use Rattle.recordings.specs.Marked.{Marked}
@@ -53,23 +56,20 @@ RecBalance c s l i = BalanceWith c s i (lost l i)
 
 -- "17's balance counts the entries": "lowest queue"
 unfoldable pub recQueuesCheck : Chain → Run → Losses → Refusal
-unfolding first tab lostIn
-recQueuesCheck c s l = first (tab (c .n) (queueTest c s (putIn c s) (recAccounted c s l)))
+unfolding first tab lostIn capacity least
+recQueuesCheck c s l = first (tab (c .n) (queueTest c s (supplied c s) (recAccounted c s l)))
 
 -- "a list longer than 256 or an entry that names no queue of the chain is 17 before the balance"
 unfoldable pub recStateCheck : Chain → Run → Losses → Refusal
 unfolding orElse listCheck recQueuesCheck
 recStateCheck c s l = orElse (listCheck (c .n) l) (recQueuesCheck c s l)
 
--- 17's reasons at queue i, none of them, and the lowest queue that has one
-abbrev pub RecBroken : Chain → Run → Losses → ℕ → Type 0
-RecBroken c s l = BrokenAt c s (putIn c s) (recAccounted c s l)
-
+-- none of 17's reasons at queue i, and the lowest queue that has one
 abbrev pub RecSteady : Chain → Run → Losses → ℕ → Type 0
-RecSteady c s l = SteadyAt c s (putIn c s) (recAccounted c s l)
+RecSteady c s l = SteadyAt c s (supplied c s) (recAccounted c s l)
 
 abbrev pub FirstRecBroken : Chain → Run → Losses → ℕ → Type 0
-FirstRecBroken c s l = FirstBrokenAt c s (putIn c s) (recAccounted c s l)
+FirstRecBroken c s l = FirstBrokenAt c s (supplied c s) (recAccounted c s l)
 
 -- a state and a list that pass 17
 pub record RecSound (c : Chain) (s : Run) (l : Losses) : Type 0 where
@@ -84,18 +84,27 @@ module _ (c : Chain) (s : Run) (l : Losses) where
   unfolding recStateCheck recQueuesCheck
   rec-state-exact L =
       Iff·trans (or-says 17 L (λ e. omega arith) (listCheck (c .n) l) (recQueuesCheck c s l))
-      (sum-iff (list-exact (c .n) l L) (Iff·and (list-silent (c .n) l) (queues-exact c s (putIn c s) (recAccounted c s l) L)))
+      (sum-iff (list-exact (c .n) l L) (Iff·and (list-silent (c .n) l) (queues-exact c s (supplied c s) (recAccounted c s l) L)))
 
   pub rec-state-silent : Silent (recStateCheck c s l) ↔ RecSound c s l
   unfolding recStateCheck recQueuesCheck
   rec-state-silent =
       Iff·trans (or-silents (listCheck (c .n) l) (recQueuesCheck c s l))
-      (Iff·trans (Iff·and (list-silent (c .n) l) (queues-silent c s (putIn c s) (recAccounted c s l)))
+      (Iff·trans (Iff·and (list-silent (c .n) l) (queues-silent c s (supplied c s) (recAccounted c s l)))
       (λ h. record { short = h .0 .0; named = h .0 .1; queues = h .1 }, λ r. ((r .short, r .named), r .queues)))
 
   pub rec-state-only : Only 17 (recStateCheck c s l)
   unfolding recStateCheck recQueuesCheck
-  rec-state-only = only-or (listCheck (c .n) l) (recQueuesCheck c s l) (list-only (c .n) l) (queues-only c s (putIn c s) (recAccounted c s l))
+  rec-state-only = only-or (listCheck (c .n) l) (recQueuesCheck c s l) (list-only (c .n) l) (queues-only c s (supplied c s) (recAccounted c s l))
+
+-- "ticks and tokens of entries are tested through the sum alone": lists of as many entries that name the same queues and have the same sums are refused alike
+pub rec-state-sums : (c : Chain) (s : Run) (l m : Losses) → l .count ≡ m .count → ((k : ℕ) → k < l .count → entryAt l k .queue ≡ entryAt m k .queue)
+    → ((j : ℕ) → j < c .n → lost l j ≡ lost m j) → recStateCheck c s l ≡ recStateCheck c s m
+unfolding recStateCheck recQueuesCheck listCheck strayCheck
+rec-state-sums c s l m count queues sums = ap₂ orElse
+    (ap₂ orElse (ap (λ (k : ℕ). test 17 0 (ltb longestList k)) count)
+    (ap first (tab-alike (l .count) (strayTest (c .n) l) (strayTest (c .n) m) (λ k h. ap (λ (q : ℕ). test 17 0 (leb (c .n) q)) (queues k h)) ∙ ap (λ (k : ℕ). tab k (strayTest (c .n) m)) count)))
+    (ap first (tab-alike (c .n) _ _ (λ i h. ap (λ (x : ℕ). test 17 i (brokenUnless (eqb (supplied c s i) (accounted c s i + x)) (rowOf c i) (workOf c i) (heldAt s i) (doneAt s i))) (sums i h))))
 
 -- an accepted chain, and a state and a list, of all their slots, that pass 17
 pub record Recording (c : Chain) (s : Run) (l : Losses) : Type 0 where
@@ -117,14 +126,10 @@ module _ {c : Chain} {s : Run} {l : Losses} where
     sound = record { short = k .short; named = n; queues = λ j h. ((b j h, f .within j h), f .below j h) };
   }
 
-  -- each queue has its slots
-  pub recording-slots : Recording c s l → Slots (c .n) s
-  recording-slots r = record { counts = omega (arith, r .whole .counts, r .chain .chain .count .1); held = omega (arith, r .whole .held, r .chain .chain .count .1) }
-
 -- firings that lead to a filled state lead to one that passes 17
 pub leads-recording : {c : Chain} {s u : Run} {l m : Losses} {h : List Marked} → Recording c s l → Leads c s l h u m → Filled c u → Recording c u m
 leads-recording r a f =
-    filled-recording f (a .listed) (a .named (r .sound .named)) (λ j n. leads-balance (r .chain .chain) (recording-slots r) a j n (r .sound .queues j n .0 .0))
+    filled-recording f (a .listed) (a .named (r .sound .named)) (λ j n. leads-balance (r .chain .chain) (filled-slots (recording-filled r)) a j n (r .sound .queues j n .0 .0))
 
 -- a fresh start with an empty list
 pub fresh-recording : {c : Chain} → Accepted c → Recording c (freshRun c) emptyLosses

@@ -1,15 +1,13 @@
 -- What a firing does whose production is dropped whole (02, Item 2).
---   Cramped c s i              N_i's production does not fit its output queue; cramped-is: which is what the steps test
---   cramped-room               it fits exactly where it is not so
 --   dropped-output, -input, -other
 --                              its output queue is as it was, its input queue has c less, said with no minus, and every other queue is as it was
---   dropped-whole              it keeps the number of slots
+--   dropped-whole, -slots      it keeps the number of slots
 --   fired-dropped              had the production been put in, its queue would have p more, and nothing else would be other
---   dropped-balance            so p tokens more of its output queue are no more, and none of any other
+--   dropped-balance            so p tokens more of its output queue are lost, and none of any other
 --   dropped-filled             and no queue passes its capacity
 use mathlib.Core.Path.{_≡_, refl, sym, ap, subst, _∙_}
-use mathlib.Core.Logic.{_↔_, _≢_, by-cases}
-use mathlib.Core.Bool.{Bool, true, false, cond}
+use mathlib.Core.Logic.{_≢_, by-cases}
+use mathlib.Core.Bool.{cond}
 use Prim.Native.Nat.{ℕ, zero, suc, _+_, _-_, _≤_, _<_}
 use native.Mathlib.Nat.{add-zero}
 use native.Mathlib.Decide.{ℕ-discrete}
@@ -18,33 +16,15 @@ use lib.Dec.{eqb}
 use lib.ListN.{length, length-set}
 use lib.Seq.{getD-set-same, getD-set-other}
 use borrow.Author.Tests.{eq-eqb, ne-eqb}
-use Rattle.chain.specs.Tests.{and-true, below-true}
 use Rattle.chain.specs.Record.{rowOf}
 use Rattle.chain.specs.declared.Chain.{Chain}
 use Rattle.sizing.specs.Sizes.{capacityOf}
 use Rattle.state.specs.State.{heldAt}
-use Rattle.state.specs.Fired.{consumed, fired, Over, Room, Slots, BalanceWith, over-enough, counts-length, held-output, held-input, held-other, balance-with-kept}
-use Rattle.state.specs.Checks.{cramped}
+use Rattle.state.specs.Fired.{consumed, fired, Over, Slots, BalanceWith, over-enough, counts-length, held-output, held-input, held-other, balance-with-kept}
 use Rattle.state.specs.declared.Run.{Run}
 use Rattle.slots.specs.Runs.{Whole}
-use Rattle.instants.specs.Filled.{Filled, room-of}
+use Rattle.instants.specs.Filled.{Filled}
 use Rattle.recordings.specs.Steps.{dropped}
-
--- "a production that doesn't fit": N_i's output queue, if any, holds too much; "filling to exactly the capacity is allowed"
-abbrev pub Cramped : Chain → Run → ℕ → Type 0
-Cramped c s i = (i < c .n) × (capacityOf (rowOf c i) < heldAt s i + rowOf c i .produce)
-
-module _ (c : Chain) (s : Run) (i : ℕ) where
-  pub cramped-is : (cramped c s i ≡ true) ↔ Cramped c s i
-  unfolding cramped
-  cramped-is = and-true (below-true i (c .n)) (below-true _ _)
-
-  pub cramped-room : (cramped c s i ≡ false) ↔ Room c s i
-  cramped-room = (room-of c s i, λ r. by (cramped c s i) refl r)
-    where
-      by : (b : Bool) → cramped c s i ≡ b → Room c s i → b ≡ false
-      by true e r = let h = cramped-is .0 e in absurd (omega (arith, h .1, r (h .0)))
-      by false e r = refl
 
 module _ (c : Chain) (s : Run) where
   pub dropped-output : (i : ℕ) → heldAt (dropped c s i) i ≡ heldAt s i

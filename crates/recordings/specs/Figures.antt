@@ -2,17 +2,21 @@
 --   recRow x                   what is left, of a chain of one queue: the outcome's number, the counts of source and sink, what is held, the length of the list, and the
 --                              outcome's values
 --   feed-90, feed-90-losses    Feed with e=7 and B=10, which as a deadline run overflows at tick 40: two losses in 90 ticks
---   feed-90-firings            and the firings that were lost
---   shallow, shallow-512, -513 a queue in which nothing fits: the list fills up, and the 257th loss stops the run
---   two, two-513, -514         a second queue in which nothing fits: the run is stopped at a finish
+--   feed-41-firings            its firings to tick 41, one of them lost
+--   shallow, shallow-512, -last, -513
+--                              a queue in which nothing fits: the list fills up, and the 257th loss stops the run
+--   two, twoRow, two-513       a second queue in which nothing fits: the run is stopped at a finish
 --   two-refused                and its state and list are refused then
---   steep, steepRun            a chain whose deadline run overflows at tick 131,072, queue 0, and its state then
+--   both, bothRun, both255     a chain with two losses in one tick, and a state and a list of 255 entries before it
+--   both-passes, -full, -last  which pass 17; the 256th loss, the source's, is kept, and the other one stops the tick
+--   steep, steepRun            a chain and a state in which the source's production does not fit and a node then lacks its deadline
 --   steep-overflows, steep-taken-back
---                              which 13 ends in a recording run, taking back the source's loss
+--                              as a deadline tick it overflows, and as a recording tick 13 ends it, taking back the source's loss
 use mathlib.Core.Path.{_≡_, refl}
 use mathlib.Core.List.{List, [], _∷_}
 use mathlib.Core.Bool.{true, false}
 use Prim.Native.Nat.{ℕ}
+use lib.ListN.{replicate}
 use Rattle.words.specs.Table.{tab}
 use Rattle.chain.specs.Refusals.{refused}
 use Rattle.chain.specs.Factory.{queue, made}
@@ -21,7 +25,8 @@ use Rattle.state.specs.State.{freshRun, countAt, heldAt, doneAt}
 use Rattle.state.specs.declared.Run.{Run}
 use Rattle.instants.specs.Figures.{feedWorking}
 use Rattle.instants.specs.Steps.{overflowed, tick}
-use Rattle.losses.specs.Losses.{emptyLosses, loss, entryAt, entriesOf}
+use Rattle.losses.specs.Losses.{emptyLosses, loss, entryAt, entriesIn}
+use Rattle.losses.specs.declared.Losses.{Losses}
 use Rattle.recordings.specs.Steps.{recNumberOf, recValuesOf, recUndated, recTick, recTicks, recInstants}
 use Rattle.recordings.specs.Trace.{recTrace}
 use Rattle.recordings.specs.Checks.{recStateCheck}
@@ -36,7 +41,7 @@ pub feed-90 : recRow (recInstants (feedWorking 7 10) 90 (freshRun (feedWorking 7
 unfolding recInstants freshRun
 feed-90 = refl
 
-pub feed-90-losses : entriesOf (recInstants (feedWorking 7 10) 90 (freshRun (feedWorking 7 10)) emptyLosses .losses) ≡ loss 40 0 4 ∷ loss 80 0 4 ∷ []
+pub feed-90-losses : entriesIn (recInstants (feedWorking 7 10) 90 (freshRun (feedWorking 7 10)) emptyLosses .losses) ≡ loss 40 0 4 ∷ loss 80 0 4 ∷ []
 unfolding recInstants freshRun tab
 feed-90-losses = refl
 
@@ -84,11 +89,35 @@ pub two-refused : recStateCheck two (recTicks two 513 (freshRun two) emptyLosses
 unfolding recTicks freshRun recStateCheck
 two-refused = refl
 
--- a chain whose deadline run overflows at the source in a tick in which a node lacks its deadline
+-- two queues, the second of which fits nothing, and a first node that takes two ticks
+abbrev pub both : Chain
+both = made 4 (queue 1 1 1 1 ∷ queue 4 4 4 3 ∷ []) (2 ∷ 1 ∷ [])
+
+-- a state in which the first queue is full, the source is due and the node has one tick of work left
+abbrev pub bothRun : Run
+bothRun = record { clock = 1024; counts = 256 ∷ 0 ∷ 0 ∷ replicate 14 0; held = 1 ∷ replicate 15 0; done = 1 ∷ replicate 15 0 }
+
+abbrev pub both255 : Losses
+both255 = record { count = 255; entries = replicate 256 (loss 0 0 1) }
+
+pub both-passes : recStateCheck both bothRun both255 .number ≡ 0
+unfolding recStateCheck
+both-passes = refl
+
+-- "with 255 entries and two losses in one tick the 256th is kept": the source's step stands, and the firing that is then finished has no effect
+pub both-full : twoRow (recTick both bothRun both255) ≡ 15 ∷ 257 ∷ 0 ∷ 0 ∷ 1 ∷ 0 ∷ 2 ∷ 0 ∷ 256 ∷ 1025 ∷ 1025 ∷ 1 ∷ []
+unfolding recTick
+both-full = refl
+
+pub both-last : entryAt (recTick both bothRun both255 .losses) 255 ≡ loss 1024 0 1
+unfolding recTick
+both-last = refl
+
+-- a chain in which a node lacks its deadline while its counts are small
 abbrev pub steep : Chain
 steep = made 2 (queue 1 1 1 1 ∷ queue 1 65535 65535 65535 ∷ queue 1 1 1 1000000 ∷ []) (1 ∷ 3 ∷ 1 ∷ [])
 
--- its state at that tick
+-- a state of it: the source is due, its queue is full, and N_3 is over threshold
 abbrev pub steepRun : Run
 steepRun = record { clock = 131072; counts = 65536 ∷ 65535 ∷ 1 ∷ 0 ∷ []; held = 1 ∷ 0 ∷ 1 ∷ []; done = 0 ∷ 0 ∷ 0 ∷ [] }
 

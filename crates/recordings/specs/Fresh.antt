@@ -1,5 +1,5 @@
 -- A recording run from a fresh start with an empty list, beside the deadline run, its 15 and its 17 (02, Item 2).
---   rec-run-same, rec-run-undated
+--   rec-run-clean, -undated
 --                              as long as the deadline run does not overflow it is that run
 --   rec-run-loses              where that would overflow at t and queue q, its first entry is that loss, unless 13 at t has taken it back
 --   rec-run-nothing-lost       so where it is clean and its list is empty it is the deadline run
@@ -14,6 +14,7 @@ use Rattle.chain.specs.Refusals.{Silent}
 use Rattle.chain.specs.declared.Chain.{Chain}
 use Rattle.sizing.specs.Accepted.{Accepted}
 use Rattle.state.specs.State.{freshRun}
+use Rattle.state.specs.Checks.{Cramped}
 use Rattle.state.specs.declared.Run.{Run}
 use Rattle.instants.specs.Steps.{clean, ticks, instants}
 use Rattle.instants.specs.Fresh.{run-is-ticks}
@@ -24,11 +25,10 @@ use Rattle.instants.specs.declared.Ticked.{Ticked}
 use Rattle.losses.specs.Losses.{emptyLosses, listed-empty}
 use Rattle.recordings.specs.Steps.{recClean, recUndated, recTicks}
 use Rattle.recordings.specs.Runs.{rec-run-is-ticks}
-use Rattle.recordings.specs.Drops.{Cramped}
 use Rattle.recordings.specs.Kept.{ticks-lead}
 use Rattle.recordings.specs.Checks.{recStateCheck, rec-state-silent, recording-filled, fresh-recording, rec-ticks-recording}
 use Rattle.recordings.specs.Traced.{recRun}
-use Rattle.recordings.specs.Same.{same-clean, same-undated, TakenBack, NextLoss, first-loss, nothing-lost}
+use Rattle.recordings.specs.Beside.{beside-clean, beside-undated, TakenBack, NextLoss, first-loss, nothing-lost-clean}
 use Rattle.recordings.specs.Exactly.{rec-ticks-full}
 use Rattle.recordings.specs.declared.RecordOutcome.the-variants.{Clean, ListFull}
 use Rattle.recordings.specs.declared.Recorded.{Recorded}
@@ -48,11 +48,11 @@ module _ {c : Chain} (a : Accepted c) (T : ℕ) where
   left = ap (λ (x : Ticked). x .run) (sym (run-is-ticks a T))
 
   -- "as long as nothing is lost it is the deadline run's definition"
-  pub rec-run-same : instants c T (freshRun c) .outcome ≡ plain.Clean → recRun c T ≡ recClean (instants c T (freshRun c) .run) emptyLosses
-  rec-run-same e = by-ticks ∙ same-clean c T (freshRun c) emptyLosses (ends e) ∙ ap (λ (s : Run). recClean s emptyLosses) left
+  pub rec-run-clean : instants c T (freshRun c) .outcome ≡ plain.Clean → recRun c T ≡ recClean (instants c T (freshRun c) .run) emptyLosses
+  rec-run-clean e = by-ticks ∙ beside-clean c T (freshRun c) emptyLosses (ends e) ∙ ap (λ (s : Run). recClean s emptyLosses) left
 
   pub rec-run-undated : (t i : ℕ) → instants c T (freshRun c) .outcome ≡ plain.NoDeadline t i → recRun c T ≡ recUndated (instants c T (freshRun c) .run) emptyLosses t i
-  rec-run-undated t i e = by-ticks ∙ same-undated c T (freshRun c) emptyLosses t i (ends e) ∙ ap (λ (s : Run). recUndated s emptyLosses t i) left
+  rec-run-undated t i e = by-ticks ∙ beside-undated c T (freshRun c) emptyLosses t i (ends e) ∙ ap (λ (s : Run). recUndated s emptyLosses t i) left
 
   -- "where that would overflow at (t, q) .., the next entry is (t, q, p of q), unless 13 comes at t and takes a source's loss back"
   pub rec-run-loses : (t q : ℕ) → instants c T (freshRun c) .outcome ≡ plain.Overflowed t q
@@ -64,10 +64,10 @@ module _ {c : Chain} (a : Accepted c) (T : ℕ) where
   pub rec-run-nothing-lost : recRun c T .outcome ≡ Clean → recRun c T .losses .count ≡ 0 → instants c T (freshRun c) ≡ clean (recRun c T .run)
   rec-run-nothing-lost z none =
       run-is-ticks a T
-      ∙ nothing-lost T filled listed-empty (ap (λ (x : Recorded). x .outcome) (sym by-ticks) ∙ z) (ap (λ (x : Recorded). x .losses .count) (sym by-ticks) ∙ none)
+      ∙ nothing-lost-clean T filled listed-empty (ap (λ (x : Recorded). x .outcome) (sym by-ticks) ∙ z) (ap (λ (x : Recorded). x .losses .count) (sym by-ticks) ∙ none)
       ∙ ap (λ (x : Recorded). clean (x .run)) (sym by-ticks)
 
-  -- "where the list holds 256, a production that doesn't fit gives 15, and 15 comes only so"
+  -- "15 comes only so": it leaves 256 entries, and a state in which the production does not fit; that it comes so is beside-full
   pub rec-run-full : (t q : ℕ) → recRun c T .outcome ≡ ListFull t q → (recRun c T .losses .count ≡ 256) × Cramped c (recRun c T .run) q
   rec-run-full t q e = subst (λ (x : Recorded). (x .losses .count ≡ 256) × Cramped c (x .run) q) (sym by-ticks)
       (let h = rec-ticks-full T filled listed-empty t q (ap (λ (x : Recorded). x .outcome) (sym by-ticks) ∙ e) in

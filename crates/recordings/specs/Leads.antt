@@ -16,28 +16,28 @@ use Rattle.chain.specs.Record.{rowOf}
 use Rattle.chain.specs.Sound.{Sound}
 use Rattle.chain.specs.declared.Chain.{Chain}
 use Rattle.state.specs.Fired.{fired, Over, Room, Slots, BalanceWith}
+use Rattle.state.specs.Checks.{Cramped}
 use Rattle.state.specs.declared.Run.{Run}
 use Rattle.history.specs.History.{Entry}
 use Rattle.traces.specs.Trace.{resting}
 use Rattle.traces.specs.Rising.{Rising, rising-append}
-use Rattle.losses.specs.Losses.{entriesOf, noted, lostIn, lost, lost-append, Listed, listed-noted, is-noted, noted-entries, Goes, goes-refl, goes-trans, goes-noted}
+use Rattle.losses.specs.Losses.{entriesIn, noted, lostIn, lost, lost-append, Listed, listed-noted, is-noted, noted-entries, Extends, extends-refl, extends-trans, extends-noted}
 use Rattle.losses.specs.Checks.{Named}
 use Rattle.losses.specs.declared.Loss.{Loss}
 use Rattle.losses.specs.declared.Losses.{Losses}
 use Rattle.recordings.specs.Steps.{dropped}
-use Rattle.recordings.specs.Drops.{Cramped}
-use Rattle.recordings.specs.Marked.{Marked, firings, recAfter, EachFair, lossesOf, after-append, fair-append, losses-append, marked-balance}
+use Rattle.recordings.specs.Marked.{Marked, unmarked, recAfter, EachFair, lossesOf, rec-after-append, fair-append, losses-append, marked-balance}
 
 -- the firings h lead from s and l to u and m: each is fair where it is made, the counts and contents after them are u's, and m has l's entries and then what the
 -- lost ones lost, its other slots as they were; the instants never fall, from the clock of s to that of u
 pub record Leads (c : Chain) (s : Run) (l : Losses) (h : List Marked) (u : Run) (m : Losses) : Type 0 where
   pub fair : EachFair c (resting s) h
   pub after : recAfter c (resting s) h ≡ resting u
-  pub entries : entriesOf m ≡ entriesOf l ++ lossesOf c h
-  pub goes : Goes l m
+  pub entries : entriesIn m ≡ entriesIn l ++ lossesOf c h
+  pub goes : Extends l m
   pub listed : Listed m
   pub named : Named (c .n) l → Named (c .n) m
-  pub rising : Rising (s .clock) (firings h) (u .clock)
+  pub rising : Rising (s .clock) (unmarked h) (u .clock)
 
 -- no firing, between states with the same counts and contents
 pub leads-none : (c : Chain) (s u : Run) {l : Losses} → Listed l → s .counts ≡ u .counts → s .held ≡ u .held → s .clock ≤ u .clock → Leads c s l [] u l
@@ -45,8 +45,8 @@ unfolding EachFair recAfter lossesOf Rising
 leads-none c s u {l} k a h later = record {
   fair = tt;
   after = λ i. record { clock = 0; counts = a i; held = h i; done = replicate 16 0 };
-  entries = sym (append-nil (entriesOf l));
-  goes = goes-refl l;
+  entries = sym (append-nil (entriesIn l));
+  goes = extends-refl l;
   listed = k;
   named = λ n. n;
   rising = later;
@@ -64,8 +64,8 @@ module _ (c : Chain) (s : Run) {l : Losses} (k : Listed l) (i : ℕ) (node : i �
   leads-fired room = record {
     fair = (record { node = node; over = resting-over c s i over; lost = λ e. absurd (true≢false (sym e)); fits = λ e. room }, tt);
     after = refl;
-    entries = sym (append-nil (entriesOf l));
-    goes = goes-refl l;
+    entries = sym (append-nil (entriesIn l));
+    goes = extends-refl l;
     listed = k;
     named = λ n. n;
     rising = (le-refl (s .clock), le-refl (s .clock));
@@ -78,10 +78,10 @@ module _ (c : Chain) (s : Run) {l : Losses} (k : Listed l) (i : ℕ) (node : i �
     fair = (record { node = node; over = resting-over c s i over; lost = λ e. full; fits = λ e. absurd (true≢false e) }, tt);
     after = refl;
     entries = noted-entries k room (s .clock) i (rowOf c i .produce);
-    goes = goes-noted l (s .clock) i (rowOf c i .produce);
+    goes = extends-noted l (s .clock) i (rowOf c i .produce);
     listed = listed-noted k room (s .clock) i (rowOf c i .produce);
     named = λ n m f. by-cases (ℕ-discrete m (l .count))
-        (λ e. rw (e, is-noted k room (s .clock) i (rowOf c i .produce) .queue) (full .0))
+        (λ e. rw (e, is-noted k room (s .clock) i (rowOf c i .produce) .entry) (full .0))
         (λ ne. rw (is-noted k room (s .clock) i (rowOf c i .produce) .others m ne) (n m (omega (arith, ne))));
     rising = (le-refl (s .clock), le-refl (s .clock));
   }
@@ -90,17 +90,17 @@ module _ (c : Chain) (s : Run) {l : Losses} (k : Listed l) (i : ℕ) (node : i �
 pub leads-then : {c : Chain} {s u v : Run} {l m n : Losses} (g h : List Marked) → Leads c s l g u m → Leads c u m h v n → Leads c s l (g ++ h) v n
 leads-then {c} {s} {u} {v} {l} g h a b = record {
   fair = fair-append c (resting s) g h (a .fair) (subst (λ (x : Run). EachFair c x h) (sym (a .after)) (b .fair));
-  after = after-append c (resting s) g h ∙ ap (λ (x : Run). recAfter c x h) (a .after) ∙ b .after;
+  after = rec-after-append c (resting s) g h ∙ ap (λ (x : Run). recAfter c x h) (a .after) ∙ b .after;
   entries =
       b .entries
       ∙ ap (λ (x : List Loss). x ++ lossesOf c h) (a .entries)
-      ∙ append-assoc (entriesOf l) (lossesOf c g) (lossesOf c h)
-      ∙ ap (λ (x : List Loss). entriesOf l ++ x) (sym (losses-append c g h));
-  goes = goes-trans (a .goes) (b .goes);
+      ∙ append-assoc (entriesIn l) (lossesOf c g) (lossesOf c h)
+      ∙ ap (λ (x : List Loss). entriesIn l ++ x) (sym (losses-append c g h));
+  goes = extends-trans (a .goes) (b .goes);
   listed = b .listed;
   named = λ k. b .named (a .named k);
   rising = subst (λ (x : List Entry). Rising (s .clock) x (v .clock)) (sym (map-append (λ (e : Marked). e .0) g h))
-      (rising-append (s .clock) (firings g) (u .clock) (firings h) (v .clock) (a .rising) (b .rising));
+      (rising-append (s .clock) (unmarked g) (u .clock) (unmarked h) (v .clock) (a .rising) (b .rising));
 }
 
 -- "tokens produced equal tokens consumed, held, and the sum of that queue's entries"
@@ -112,4 +112,4 @@ leads-balance {c} {s} {u} {l} {m} {h} k slots a j f b =
     (marked-balance k (resting s) (record { counts = slots .counts; held = slots .held }) h (a .fair) j f (lost l j) b))
   where
     sum : lost l j + lostIn j (lossesOf c h) ≡ lost m j
-    sum = sym (ap (lostIn j) (a .entries) ∙ lost-append j (entriesOf l) (lossesOf c h))
+    sum = sym (ap (lostIn j) (a .entries) ∙ lost-append j (entriesIn l) (lossesOf c h))

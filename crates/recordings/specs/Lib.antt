@@ -8,7 +8,7 @@ pub mod Leads
 pub mod Kept
 pub mod Checks
 pub mod Traced
-pub mod Same
+pub mod Beside
 pub mod Once
 pub mod Exactly
 pub mod Fresh

@@ -1,12 +1,12 @@
 -- A history in which each firing is marked as lost or not (02, Item 2), with no clock, deadline or list.
 --   Marked                     an instant, a node, and whether its production is lost
---   firings h                  the firings of such a list, with no marks
+--   unmarked h                 the firings of such a list, with no marks
 --   recStep c s e              the state after one of them, and recAfter c s h after all of them
 --   Fair c s e                 it is a firing that s allows, lost exactly where its production does not fit
 --   EachFair c s h             each of them is, in the state that it is made in
 --   lossesOf c h               what the lost ones lose, in order: the instant, the queue and p
---   after-append, fair-append, losses-append
---                              histories one after the other
+--   rec-after-append, fair-append, fair-before, losses-append
+--                              histories one after the other, and what one begins with
 --   marked-counted             a node's count has grown by how often it fired, lost or not
 --   marked-balance             what a queue started with and what was put into it is what it holds, what was taken from it, and what the lost ones of its producer lost
 --   marked-within              no queue passes its capacity
@@ -25,6 +25,7 @@ use Rattle.chain.specs.declared.Chain.{Chain}
 use Rattle.sizing.specs.Sizes.{capacityOf}
 use Rattle.state.specs.State.{countAt, heldAt}
 use Rattle.state.specs.Fired.{fired, Over, Room, Slots, slots-kept, BalanceWith, over-enough, counts-length, count-fired, count-other, balance-with-kept}
+use Rattle.state.specs.Checks.{Cramped}
 use Rattle.state.specs.declared.Run.{Run}
 use Rattle.history.specs.History.{Entry, nodes, times}
 use Rattle.history.specs.Queues.{times-again, times-other}
@@ -32,15 +33,15 @@ use Rattle.instants.specs.Filled.{Filled, fired-filled}
 use Rattle.losses.specs.Losses.{loss, lostIn, lost-append}
 use Rattle.losses.specs.declared.Loss.{Loss}
 use Rattle.recordings.specs.Steps.{dropped}
-use Rattle.recordings.specs.Drops.{Cramped, dropped-slots, dropped-balance, dropped-filled}
+use Rattle.recordings.specs.Drops.{dropped-slots, dropped-balance, dropped-filled}
 
 -- an instant, the node whose firing takes effect then, and whether its production is lost
 abbrev pub Marked : Type 0
 Marked = Entry × Bool
 
 -- the firings with no marks
-abbrev pub firings : List Marked → List Entry
-firings h = map (λ (e : Marked). e .0) h
+abbrev pub unmarked : List Marked → List Entry
+unmarked h = map (λ (e : Marked). e .0) h
 
 -- "dropped whole", or a firing as ever
 abbrev pub recStep : Chain → Run → Marked → Run
@@ -70,15 +71,21 @@ lossesOf c [] = []
 lossesOf c (e ∷ h) = cond (e .1) (loss (e .0 .0) (e .0 .1) (rowOf c (e .0 .1) .produce) ∷ lossesOf c h) (lossesOf c h)
 
 module _ (c : Chain) where
-  pub after-append : (s : Run) (g h : List Marked) → recAfter c s (g ++ h) ≡ recAfter c (recAfter c s g) h
+  pub rec-after-append : (s : Run) (g h : List Marked) → recAfter c s (g ++ h) ≡ recAfter c (recAfter c s g) h
   unfolding recAfter
-  after-append s [] h = refl
-  after-append s (e ∷ g) h = after-append (recStep c s e) g h
+  rec-after-append s [] h = refl
+  rec-after-append s (e ∷ g) h = rec-after-append (recStep c s e) g h
 
   pub fair-append : (s : Run) (g h : List Marked) → EachFair c s g → EachFair c (recAfter c s g) h → EachFair c s (g ++ h)
   unfolding recAfter EachFair
   fair-append s [] h a b = b
   fair-append s (e ∷ g) h a b = (a .0, fair-append (recStep c s e) g h (a .1) b)
+
+  -- what holds of each firing of a history holds of each of what it begins with
+  pub fair-before : (s : Run) (g h : List Marked) → EachFair c s (g ++ h) → EachFair c s g
+  unfolding EachFair
+  fair-before s [] h a = tt
+  fair-before s (e ∷ g) h a = (a .0, fair-before (recStep c s e) g h (a .1))
 
   pub losses-append : (g h : List Marked) → lossesOf c (g ++ h) ≡ lossesOf c g ++ lossesOf c h
   unfolding lossesOf
@@ -93,37 +100,34 @@ module _ (c : Chain) where
       by true same = ap (λ (l : List Loss). own ∷ l) same
       by false same = same
 
--- one firing, lost or not, counts for its node
+-- one firing, lost or not
 module _ (c : Chain) (s : Run) (e : Marked) where
-  step-length : length (recStep c s e .counts) ≡ length (s .counts)
-  step-length = by (e .1)
+  -- what holds of a lost one and of one that fits holds of it
+  step-cases : (P : Run → Type 0) → P (dropped c s (e .0 .1)) → P (fired c s (e .0 .1)) → P (recStep c s e)
+  step-cases P drops fires = by (e .1)
     where
-      by : (b : Bool) → length ((cond b (dropped c s (e .0 .1)) (fired c s (e .0 .1))) .counts) ≡ length (s .counts)
-      by true = counts-length c s (e .0 .1)
-      by false = counts-length c s (e .0 .1)
+      by : (b : Bool) → P (cond b (dropped c s (e .0 .1)) (fired c s (e .0 .1)))
+      by true = drops
+      by false = fires
 
   step-count : (i : ℕ) → countAt (recStep c s e) i ≡ countAt (fired c s (e .0 .1)) i
-  step-count i = by (e .1)
-    where
-      by : (b : Bool) → countAt (cond b (dropped c s (e .0 .1)) (fired c s (e .0 .1))) i ≡ countAt (fired c s (e .0 .1)) i
-      by true = refl
-      by false = refl
+  step-count i = step-cases (λ t. countAt t i ≡ countAt (fired c s (e .0 .1)) i) refl refl
 
   step-slots : {n : ℕ} → Slots n s → Slots n (recStep c s e)
-  step-slots {n} k = by (e .1)
-    where
-      by : (b : Bool) → Slots n (cond b (dropped c s (e .0 .1)) (fired c s (e .0 .1)))
-      by true = dropped-slots c s (e .0 .1) k
-      by false = slots-kept c s (e .0 .1) k
+  step-slots {n} k = step-cases (Slots n) (dropped-slots c s (e .0 .1) k) (slots-kept c s (e .0 .1) k)
 
-pub marked-counted : (c : Chain) (s : Run) (h : List Marked) (i : ℕ) → i < length (s .counts) → countAt (recAfter c s h) i ≡ countAt s i + times i (nodes (firings h))
+  step-length : length (recStep c s e .counts) ≡ length (s .counts)
+  step-length = step-cases (λ t. length (t .counts) ≡ length (s .counts)) (counts-length c s (e .0 .1)) (counts-length c s (e .0 .1))
+
+-- each counts for its node
+pub marked-counted : (c : Chain) (s : Run) (h : List Marked) (i : ℕ) → i < length (s .counts) → countAt (recAfter c s h) i ≡ countAt s i + times i (nodes (unmarked h))
 unfolding recAfter times
 marked-counted c s [] i l = sym (add-zero _)
 marked-counted c s (e ∷ h) i l = marked-counted c (recStep c s e) h i (omega (arith, step-length c s e)) ∙ by-cases (ℕ-discrete (e .0 .1) i)
     (λ q.
     let once : countAt (fired c s (e .0 .1)) i ≡ countAt s i + 1 = subst (λ (m : ℕ). countAt (fired c s m) i ≡ countAt s i + 1) (sym q) (count-fired c s i l) in
-    rw (times-again (e .0 .1) i (nodes (firings h)) q) (omega (arith, step-count c s e i, once)))
-    (λ n. rw (times-other (e .0 .1) i (nodes (firings h)) n) (omega (arith, step-count c s e i, count-other c s (e .0 .1) i (λ q. n (sym q)))))
+    rw (times-again (e .0 .1) i (nodes (unmarked h)) q) (omega (arith, step-count c s e i, once)))
+    (λ n. rw (times-other (e .0 .1) i (nodes (unmarked h)) n) (omega (arith, step-count c s e i, count-other c s (e .0 .1) i (λ q. n (sym q)))))
 
 -- one firing of a sound chain, and a queue
 module _ {c : Chain} (k : Sound c) (s : Run) (slots : Slots (c .n) s) (e : Marked) (f : Fair c s e) where

@@ -1,34 +1,33 @@
 -- What the steps of a recording tick leave (02, Item 2), field by field, and that nothing else fits.
 --   LostOnce c u i l t m       t is u after a firing of N_i whose production was dropped, with m for the list l, the clock left open
---   lost-once, lost-only       what a dropped production leaves is that, and at one clock nothing else is
+--   lost-only                  at one clock nothing else is that
 --   SourceNoted c s l u m      u and m are s and l after the source's step
 --   source-noted, source-noted-only
 --                              what it leaves where it is clean is that, and nothing else is
 --   WorkNoted c u l w t m      t and m are u and l after one tick of work of N_w, and after the effect of its firing where that is then finished
---   work-noted, work-noted-only
---                              what a tick of work leaves where it is clean is that, and nothing else is
---   WorkFull c u w j t         t is u after the last tick of work of N_(j+1), with nothing of its firing done
---   work-full, work-full-only  what the full list leaves of a tick of work is that, and nothing else is
+--   WorkFull c u j t           t is u after the last tick of work of N_(j+1), with nothing of its firing done
+--   work-full, work-noted      what the full list leaves of a tick of work, and what one leaves that is clean, is that
+--   work-noted-only, work-full-only
+--                              and nothing else is
 use mathlib.Core.Path.{_≡_, refl, sym, ap, subst, _∙_}
-use mathlib.Core.Logic.{_≢_, by-cases}
+use mathlib.Core.Logic.{_≢_, ⊎-elim, by-cases}
 use mathlib.Core.Bool.{false}
 use mathlib.Core.List.{List}
 use Prim.Native.Nat.{ℕ, zero, suc, _+_, _≤_, _<_}
-use native.Mathlib.Decide.{ℕ-discrete, decLt, decDvd}
+use native.Mathlib.Decide.{ℕ-discrete, decDvd}
 use native.Mathlib.Omega.{arith}
 use lib.ListN.{length, getD, length-set}
 use lib.Seq.{getD-set-same, getD-set-other, ext-getD}
 use Rattle.chain.specs.Record.{rowOf, workOf}
 use Rattle.chain.specs.declared.Chain.{Chain}
-use Rattle.sizing.specs.Sizes.{capacityOf}
 use Rattle.state.specs.State.{countAt, heldAt, doneAt, same-run}
 use Rattle.state.specs.Fired.{fired, Over, Room, over-enough, count-fired, count-other}
-use Rattle.state.specs.Checks.{cramped}
+use Rattle.state.specs.Checks.{cramped, Cramped, cramped-room, cramped-or}
 use Rattle.state.specs.declared.Run.{Run}
 use Rattle.slots.specs.Runs.{Whole}
 use Rattle.instants.specs.Steps.{clean, withDone, worked, finish, finished}
 use Rattle.instants.specs.Filled.{Filled, cramped-as}
-use Rattle.instants.specs.Source.{Due, Full, Fits, SourceOnce, once-fires, once-rests, source-only}
+use Rattle.instants.specs.Source.{Due, SourceOnce, once-fires, once-rests, source-only}
 use Rattle.instants.specs.Once.{WorkOnce, work-once, work-only}
 use Rattle.instants.specs.Kept.{worked-counts, worked-held, worked-clock, worked-same, worked-other, works-on, works-ends, cleared-filled, fired-clock}
 use Rattle.instants.specs.declared.Ticked.{Ticked}
@@ -36,7 +35,7 @@ use Rattle.losses.specs.Losses.{noted, Noted, Listed, is-noted, noted-only}
 use Rattle.losses.specs.declared.Losses.{Losses}
 use Rattle.recordings.specs.Steps.{dropped, recSourced, recFinished}
 use Rattle.recordings.specs.Runs.{rec-unclean-full}
-use Rattle.recordings.specs.Drops.{Cramped, cramped-room, dropped-input, dropped-other, dropped-whole}
+use Rattle.recordings.specs.Drops.{dropped-input, dropped-other, dropped-whole}
 use Rattle.recordings.specs.Cases.{source-four, work-four}
 use Rattle.recordings.specs.declared.RecordOutcome.the-variants.{Clean}
 
@@ -52,7 +51,7 @@ pub record LostOnce (c : Chain) (u : Run) (i : ℕ) (l : Losses) (t : Run) (m : 
   pub others : (k : ℕ) → i ≢ suc k → doneAt t k ≡ doneAt u k
   pub noted : Noted l (t .clock) i (rowOf c i .produce) m
 
--- a list of which l and the entry are known is one only
+-- at one clock a lost firing leaves one state and one list only
 module _ {c : Chain} {u : Run} {i : ℕ} {l : Losses} {t v : Run} {m n : Losses} (at : t .clock ≡ v .clock) (a : LostOnce c u i l t m) (b : LostOnce c u i l v n) where
   lost-run : t ≡ v
   lost-run = same-run at
@@ -69,8 +68,8 @@ module _ {c : Chain} {u : Run} {i : ℕ} {l : Losses} {t v : Run} {m n : Losses}
 -- u and m are s and l after the source's step: where it loses nothing it is that of the deadline run, and the list is as it was
 pub record SourceNoted (c : Chain) (s : Run) (l : Losses) (u : Run) (m : Losses) : Type 0 where
   pub clock : u .clock ≡ s .clock
-  pub keeps : (Due c s → Fits c s) → SourceOnce c s u × (m ≡ l)
-  pub loses : Due c s → Full c s → LostOnce c s 0 l u m
+  pub keeps : (Due c s → Room c s 0) → SourceOnce c s u × (m ≡ l)
+  pub loses : Due c s → Cramped c s 0 → LostOnce c s 0 l u m
 
 module _ {c : Chain} {s : Run} (f : Filled c s) {l : Losses} (k : Listed l) where
   source-lost : l .count < 256 → LostOnce c s 0 l (dropped c s 0) (noted l (s .clock) 0 (rowOf c 0 .produce))
@@ -89,20 +88,18 @@ module _ {c : Chain} {s : Run} (f : Filled c s) {l : Losses} (k : Listed l) wher
   pub source-noted : recSourced c s l .outcome ≡ Clean → SourceNoted c s l (recSourced c s l .run) (recSourced c s l .losses)
   unfolding fired
   source-noted = source-four f l (λ x. x .outcome ≡ Clean → SourceNoted c s l (x .run) (x .losses))
-      (λ d full room z. record { clock = refl; keeps = λ fits. absurd (omega (arith, full, fits d)); loses = λ h g. source-lost room })
-      (λ d full none z. absurd (rec-unclean-full z))
-      (λ d fits z. record { clock = refl; keeps = λ h. (once-fires f d, refl); loses = λ h full. absurd (omega (arith, full, fits)) })
-      (λ rests z. record { clock = refl; keeps = λ h. (once-rests f rests, refl); loses = λ d full. absurd (rests d) })
+      (λ d spills room z. record { clock = refl; keeps = λ fits. absurd (omega (arith, spills .1, fits d (spills .0))); loses = λ h g. source-lost room })
+      (λ d spills none z. absurd (rec-unclean-full z))
+      (λ d fits z. record { clock = refl; keeps = λ h. (once-fires f d, refl); loses = λ h spills. absurd (omega (arith, spills .1, fits (spills .0))) })
+      (λ rests z. record { clock = refl; keeps = λ h. (once-rests f rests, refl); loses = λ d spills. absurd (rests d) })
 
 -- the source's step leaves one state and one list only
 pub source-noted-only : {c : Chain} {s : Run} {l : Losses} {u v : Run} {m n : Losses} → SourceNoted c s l u m → SourceNoted c s l v n → (u ≡ v) × (m ≡ n)
 source-noted-only {c} {s} {l} {u} {v} {m} {n} a b = by-cases (decDvd (c .period) (s .clock))
-    (λ d. by-cases (decLt (capacityOf (rowOf c 0)) (heldAt s 0 + rowOf c 0 .produce))
-    (λ full. lost-only (a .clock ∙ sym (b .clock)) (a .loses d full) (b .loses d full))
-    (λ fits. kept (λ h. omega arith)))
+    (λ d. ⊎-elim (λ spills. lost-only (a .clock ∙ sym (b .clock)) (a .loses d spills) (b .loses d spills)) (λ room. kept (λ h. room)) (cramped-or c s 0))
     (λ rests. kept (λ d. absurd (rests d)))
   where
-    kept : (Due c s → Fits c s) → (u ≡ v) × (m ≡ n)
+    kept : (Due c s → Room c s 0) → (u ≡ v) × (m ≡ n)
     kept h = let p = a .keeps h in let q = b .keeps h in (source-only u v (p .0) (q .0), p .1 ∙ sym (q .1))
 
 -- t and m are u and l after one tick of work of N_w: where no production is lost it is that of the deadline run, and the list is as it was
@@ -215,17 +212,13 @@ module _ {c : Chain} {u : Run} {l : Losses} {w : ℕ} {t v : Run} {m n : Losses}
       kept : ((j : ℕ) → w ≡ suc j → doneAt u j + 1 ≡ workOf c j → Room c u (suc j)) → (t ≡ v) × (m ≡ n)
       kept h = let p = a .keeps h in let q = b .keeps h in (work-only (p .0) (q .0), p .1 ∙ sym (q .1))
 
-      own : (j k : ℕ) → w ≡ suc j → w ≡ suc k → Room c u (suc j) → Room c u (suc k)
-      own j k e q room = subst (Room c u) (sym e ∙ q) room
-
       at : (i : ℕ) → w ≡ i → (t ≡ v) × (m ≡ n)
       at zero e = kept (λ j q. absurd (omega arith))
       at (suc j) e = by-cases (ℕ-discrete (doneAt u j + 1) (workOf c j))
-          (λ all. by-cases (decLt (suc j) (c .n))
-          (λ has. by-cases (decLt (capacityOf (rowOf c (suc j))) (heldAt u (suc j) + rowOf c (suc j) .produce))
-          (λ full. lost-only (a .clock ∙ sym (b .clock)) (a .loses j e all (has, full)) (b .loses j e all (has, full)))
-          (λ fits. kept (λ k q z. own j k e q (λ h. omega arith))))
-          (λ none. kept (λ k q z. own j k e q (λ h. absurd (none h)))))
+          (λ all. ⊎-elim
+          (λ spills. lost-only (a .clock ∙ sym (b .clock)) (a .loses j e all spills) (b .loses j e all spills))
+          (λ room. kept (λ k q z. subst (Room c u) (sym e ∙ q) room))
+          (cramped-or c u (suc j)))
           (λ ne. kept (λ k q z. absurd (ne (let i : k ≡ j = omega arith in subst (λ (x : ℕ). doneAt u x + 1 ≡ workOf c x) i z))))
 
 pub work-full-only : {c : Chain} {u : Run} {j : ℕ} {t v : Run} → WorkFull c u j t → WorkFull c u j v → t ≡ v

@@ -1,11 +1,12 @@
 -- A recording run by instants and by ticks (02, Item 2).
---   rec-unclean-undated, -full no outcome that ends a recording run is clean
+--   rec-unclean-undated, -full, rec-full-undated
+--                              no outcome that ends a recording run is clean, and a full list is not 13
 --   rec-clean-or               an outcome is clean or not
---   rec-onward-cases           what holds of an outcome that ends a run, and of what follows a clean one, holds of one thing after the other
---   rec-onward-goes, -stops, -clean, -then
---                              what follows a clean state, that nothing follows any other outcome, that what goes on was clean, and three in a row
---   rec-ticks-none, -suc, -more, -last
---                              no tick, one more, a+b of them, and one more at the end
+--   rec-onward-elim            what holds of an outcome that ends a run, and of what follows a clean one, holds of one thing after the other
+--   rec-onward-goes, -stops, -then
+--                              what follows a clean state, that nothing follows any other outcome, and three in a row
+--   rec-ticks-none, -suc, -more
+--                              no tick, one more, and a+b of them
 --   rec-instants-ticks         instants are the effect of a firing that is finished, and then ticks
 --   rec-fresh-rests            at a fresh start none is
 --   rec-run-is-ticks           so a run from a fresh start is so many ticks
@@ -17,7 +18,7 @@ use Rattle.chain.specs.declared.Chain.{Chain}
 use Rattle.sizing.specs.Accepted.{Accepted}
 use Rattle.state.specs.State.{freshRun}
 use Rattle.state.specs.declared.Run.{Run}
-use Rattle.instants.specs.Follows.{Follows, Many, many-more, many-last, instants-many}
+use Rattle.instants.specs.Follows.{Follows, Many, many-more, instants-many}
 use Rattle.instants.specs.Fresh.{fresh-rests}
 use Rattle.instants.specs.declared.Ticked.{Ticked}
 use Rattle.losses.specs.declared.Losses.{Losses}
@@ -33,6 +34,11 @@ rec-unclean-undated e = let z : _≡_ {A = ℕ} 13 0 = ap recNumberOf e in absur
 pub rec-unclean-full : {t q : ℕ} → ListFull t q ≡ Clean → ⊥
 rec-unclean-full e = let z : _≡_ {A = ℕ} 15 0 = ap recNumberOf e in absurd (omega arith)
 
+-- and outcomes of two kinds differ
+pub rec-full-undated : {t q a i : ℕ} → ListFull t q ≡ NoDeadline a i → ⊥
+rec-full-undated e = let z : _≡_ {A = ℕ} 15 13 = ap recNumberOf e in absurd (omega arith)
+
+-- an outcome is clean, or it is not
 pub rec-clean-or : (o : RecordOutcome) → (o ≡ Clean) ⊎ (o ≡ Clean → ⊥)
 rec-clean-or Clean = inl refl
 rec-clean-or (NoDeadline t i) = inr rec-unclean-undated
@@ -40,9 +46,9 @@ rec-clean-or (ListFull t q) = inr rec-unclean-full
 
 -- one thing after the other: the first has ended the run, or the second follows
 module _ (x : Recorded) (f : Run → Losses → Recorded) where
-  pub rec-onward-cases : (P : Recorded → Type 0) → ((x .outcome ≡ Clean → ⊥) → P x) → (x .outcome ≡ Clean → P (f (x .run) (x .losses))) → P (recOnward x f)
+  pub rec-onward-elim : (P : Recorded → Type 0) → ((x .outcome ≡ Clean → ⊥) → P x) → (x .outcome ≡ Clean → P (f (x .run) (x .losses))) → P (recOnward x f)
   unfolding recOnward recGoes
-  rec-onward-cases P ends goes = by (x .outcome) (λ n. ends n) goes
+  rec-onward-elim P ends goes = by (x .outcome) (λ n. ends n) goes
     where
       by : (o : RecordOutcome) → ((o ≡ Clean → ⊥) → P (record { outcome = o; run = x .run; losses = x .losses })) → (o ≡ Clean → P (f (x .run) (x .losses))) → P (recGoes o (x .run) (x .losses) f)
       by Clean a b = b refl
@@ -50,13 +56,10 @@ module _ (x : Recorded) (f : Run → Losses → Recorded) where
       by (ListFull t q) a b = a rec-unclean-full
 
   pub rec-onward-goes : x .outcome ≡ Clean → recOnward x f ≡ f (x .run) (x .losses)
-  rec-onward-goes h = rec-onward-cases (λ y. y ≡ f (x .run) (x .losses)) (λ n. absurd (n h)) (λ z. refl)
+  rec-onward-goes h = rec-onward-elim (λ y. y ≡ f (x .run) (x .losses)) (λ n. absurd (n h)) (λ z. refl)
 
   pub rec-onward-stops : (x .outcome ≡ Clean → ⊥) → recOnward x f ≡ x
-  rec-onward-stops n = rec-onward-cases (λ y. y ≡ x) (λ m. refl) (λ z. absurd (n z))
-
-  pub rec-onward-clean : recOnward x f .outcome ≡ Clean → x .outcome ≡ Clean
-  rec-onward-clean = rec-onward-cases (λ y. y .outcome ≡ Clean → x .outcome ≡ Clean) (λ n h. h) (λ z h. z)
+  rec-onward-stops n = rec-onward-elim (λ y. y ≡ x) (λ m. refl) (λ z. absurd (n z))
 
 -- one thing after the other
 pub rec-onward-then : (r : Recorded) (f g : Run → Losses → Recorded) → recOnward (recOnward r f) g ≡ recOnward r (λ s l. recOnward (f s l) g)
@@ -74,7 +77,7 @@ unfolding recOnward recGoes
 follows = record { goes = λ p f. refl; none = none; then = λ r f g. rec-onward-then r (λ s l. f (s, l)) (λ s l. g (s, l)) }
   where
     none : (r : Recorded) → recOnward r (λ s l. recClean s l) ≡ r
-    none r = rec-onward-cases r (λ s l. recClean s l) (λ y. y ≡ r) (λ n. refl) (λ z i. record { outcome = sym z i; run = r .run; losses = r .losses })
+    none r = rec-onward-elim r (λ s l. recClean s l) (λ y. y ≡ r) (λ n. refl) (λ z i. record { outcome = sym z i; run = r .run; losses = r .losses })
 
 module _ (c : Chain) where
   pub rec-ticks-none : (s : Run) (l : Losses) → recTicks c 0 s l ≡ recClean s l
@@ -91,10 +94,6 @@ module _ (c : Chain) where
   -- a+b ticks are a ticks, carried on for b
   pub rec-ticks-more : (a b : ℕ) (s : Run) (l : Losses) → recTicks c (a + b) s l ≡ recOnward (recTicks c a s l) (recTicks c b)
   rec-ticks-more a b s l = many-more follows many a b (s, l)
-
-  -- so T+1 ticks are T ticks, carried on for one
-  pub rec-ticks-last : (T : ℕ) (s : Run) (l : Losses) → recTicks c (suc T) s l ≡ recOnward (recTicks c T s l) (recTick c)
-  rec-ticks-last T s l = many-last follows many T (s, l)
 
   -- 01's instants are the effect of what is finished, and then tick after tick
   pub rec-instants-ticks : (T : ℕ) (s : Run) (l : Losses) → recInstants c T s l ≡ recOnward (recFinished c s l) (recTicks c T)

@@ -1,6 +1,6 @@
 -- One recording tick and a recording run (02, Item 2); "rec" before a name says: the same of a recording run.
 --   recNumberOf o, recValuesOf o
---                              the number and the values that 01's way gives an outcome; recTickOf, recAtOf o: the values one by one
+--                              the number and the values that 01's way gives an outcome; recTickOf, recAtOf o, rec-values: the values one by one
 --   recClean s l, recUndated s l t i, recFull s l t q
 --                              a state and a list that are left clean, by 13 at t of node i, or by the full list at t and queue q
 --   recGoes, recOnward r f     what f makes of a state and a list that were left clean; any other outcome stands
@@ -14,6 +14,7 @@
 --   recTick c s l              one tick
 --   recTicks c T s l           so many of them, as far as they are clean
 --   recInstants c T s l        01's instants, T of them before the last
+use mathlib.Core.Path.{_≡_, refl}
 use mathlib.Core.Bool.{cond}
 use mathlib.Core.List.{List, [], _∷_}
 use Prim.Native.Nat.{ℕ, zero, suc}
@@ -54,6 +55,11 @@ abbrev pub recAtOf : RecordOutcome → ℕ
 recAtOf Clean = 0
 recAtOf (NoDeadline t i) = i
 recAtOf (ListFull t q) = q
+
+pub rec-values : (o : RecordOutcome) → recValuesOf o ≡ cond (eqb (recNumberOf o) 0) [] (recTickOf o ∷ recAtOf o ∷ [])
+rec-values Clean = refl
+rec-values (NoDeadline t i) = refl
+rec-values (ListFull t q) = refl
 
 -- the three ways in which a state and a list are left
 abbrev pub recClean : Run → Losses → Recorded

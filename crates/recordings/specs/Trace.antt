@@ -34,7 +34,7 @@ unfoldable pub recFinishTrace : Chain → Run → Losses → List Marked
 unfolding recTracing recFinished marked finishEntry endedIn
 recFinishTrace c s l = recTracing (recFinished c s l .outcome) (marked c s (finishEntry s (ended c s)))
 
--- one tick: the source's firing, unless the list is full or 13 takes it back, then the one finished by the work
+-- one tick: the source's firing, unless the full list stops it or 13 takes it back, then the one finished by the work
 unfoldable pub recTickTrace : Chain → Run → Losses → List Marked
 unfolding recTracing recBegun marked sourceEntry recAdvanced recFinishTrace
 recTickTrace c s l =

@@ -1,7 +1,7 @@
 -- The slots of a chain and of a state past n, and those of a list of losses past its count, are not read by a recording tick (01, Firing: "the slots past n are
 -- neither read nor changed"; 02, Item 2). Throughout, c and d are chains, s and t states, and l and m lists, that differ in such slots only.
 --   dropped-alike            a firing of a node of the chain whose production is dropped
---   lost-alike               the same, of one that is finished
+--   lost-firing-alike               the same, of one that is finished
 --   recorded-alike           a step of the deadline run in a recording run
 --   rec-sourced-, rec-begun-, rec-advanced- and rec-finished-alike
 --                            the parts of a recording tick
@@ -42,10 +42,10 @@ module _ {c d : Chain} (a : AlikeChains c d) where
   }
 
   -- the same of one that is finished
-  pub lost-alike : {s t : Run} → AlikeStates (c .n) s t → (i : ℕ) → i ≤ c .n → AlikeStates (c .n) (lostFiring c s i) (lostFiring d t i)
+  pub lost-firing-alike : {s t : Run} → AlikeStates (c .n) s t → (i : ℕ) → i ≤ c .n → AlikeStates (c .n) (lostFiring c s i) (lostFiring d t i)
   unfolding lostFiring
-  lost-alike r zero low = dropped-alike r 0 low
-  lost-alike r (suc j) low = dropped-alike (cleared-alike r j) (suc j) low
+  lost-firing-alike r zero low = dropped-alike r 0 low
+  lost-firing-alike r (suc j) low = dropped-alike (cleared-alike r j) (suc j) low
 
   -- a step of the deadline run, whose production is dropped and noted where it does not fit
   pub recorded-alike : {x y : Ticked} {l m : Losses} → Queued (c .n) (x .outcome) → AlikeTicked (c .n) x y → AlikeLosses l m → AlikeRecorded (c .n) (recorded c l x) (recorded d m y)
@@ -56,7 +56,7 @@ module _ {c d : Chain} (a : AlikeChains c d) where
       by plain.Clean low = rec-alike-clean (h .state) k
       by (plain.Overflowed t q) low = rec-alike-cond
           (ap (λ (count : ℕ). ltb count longestList) (k .count))
-          (rec-alike-clean (lost-alike (h .state) q (omega arith)) (alike-noted k t q (ap (λ (row : Queue). row .produce) (a .rows q low))))
+          (rec-alike-clean (lost-firing-alike (h .state) q (omega arith)) (alike-noted k t q (ap (λ (row : Queue). row .produce) (a .rows q low))))
           (record { outcome = refl; state = h .state; losses = k })
       by (plain.NoDeadline t i) low = record { outcome = refl; state = h .state; losses = k }
 

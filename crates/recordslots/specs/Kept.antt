@@ -1,7 +1,7 @@
 -- A recording tick keeps the slots past n of its state, and those past the count of its list, and how many there are (01, Firing: "the slots past n are neither
 -- read nor changed"; 02, Item 2).
 --   dropped-kept             a firing of a node of the chain whose production is dropped
---   lost-kept                the same, of one that is finished
+--   lost-firing-kept                the same, of one that is finished
 --   recorded-kept            a step of the deadline run in a recording run
 --   rec-sourced-, rec-begun-, rec-advanced- and rec-finished-kept
 --                            the parts of a recording tick
@@ -19,7 +19,7 @@ use Rattle.instants.specs.Kept.{chosen-low}
 use Rattle.instants.specs.declared.Outcome.{Outcome}
 use Rattle.instants.specs.declared.Outcome.the-variants as plain
 use Rattle.instants.specs.declared.Ticked.{Ticked}
-use Rattle.losses.specs.Losses.{longestList, goes-refl, goes-noted}
+use Rattle.losses.specs.Losses.{longestList, extends-refl, extends-noted}
 use Rattle.losses.specs.declared.Losses.{Losses}
 use Rattle.recordings.specs.Steps.{recClean, recUndated, recOnward, dropped, lostFiring, recordedBy, recorded, recSourced, recBegun, recAdvanced, recFinished, recTick, recTicks, recInstants}
 use Rattle.tickslots.specs.Slots.{KeptSlots, kept-list, kept-refl, kept-trans}
@@ -33,10 +33,10 @@ module _ (c : Chain) where
   dropped-kept s i low = record { counts = fired-kept c s i low .counts; held = consumed-kept c i low (s .held); done = kept-list (s .done) }
 
   -- the same of one that is finished
-  pub lost-kept : (s : Run) (i : ℕ) → i ≤ c .n → KeptSlots (c .n) s (lostFiring c s i)
+  pub lost-firing-kept : (s : Run) (i : ℕ) → i ≤ c .n → KeptSlots (c .n) s (lostFiring c s i)
   unfolding lostFiring
-  lost-kept s zero low = dropped-kept s 0 low
-  lost-kept s (suc j) low = kept-trans (cleared-kept s j low) (dropped-kept (withDone s j 0) (suc j) low)
+  lost-firing-kept s zero low = dropped-kept s 0 low
+  lost-firing-kept s (suc j) low = kept-trans (cleared-kept s j low) (dropped-kept (withDone s j 0) (suc j) low)
 
   -- a step of the deadline run, whose production is dropped and noted where it does not fit
   pub recorded-kept : {s : Run} (l : Losses) (x : Ticked) → Queued (c .n) (x .outcome) → KeptSlots (c .n) s (x .run) → KeptRecorded (c .n) s l (recorded c l x)
@@ -46,9 +46,9 @@ module _ (c : Chain) where
       by : (o : Outcome) → Queued (c .n) o → KeptRecorded (c .n) s l (recordedBy c l o (x .run))
       by plain.Clean low = rec-kept-clean l k
       by (plain.Overflowed t q) low = rec-kept-cond _ _ (ltb (l .count) longestList)
-          (record { state = kept-trans k (lost-kept (x .run) q (omega arith)); losses = goes-noted l t q (rowOf c q .produce) })
-          (record { state = k; losses = goes-refl l })
-      by (plain.NoDeadline t i) low = record { state = k; losses = goes-refl l }
+          (record { state = kept-trans k (lost-firing-kept (x .run) q (omega arith)); losses = extends-noted l t q (rowOf c q .produce) })
+          (record { state = k; losses = extends-refl l })
+      by (plain.NoDeadline t i) low = record { state = k; losses = extends-refl l }
 
   -- the source's step
   pub rec-sourced-kept : (s : Run) (l : Losses) → KeptRecorded (c .n) s l (recSourced c s l)
@@ -61,7 +61,7 @@ module _ (c : Chain) where
   rec-begun-kept s l =
       rec-kept-onward (recSourced c s l) (λ u m. cond (eqb (lacking c u .number) 0) (recClean u m) (recUndated s l (s .clock) (lacking c u .place))) (rec-sourced-kept s l)
       (λ u m k g. rec-kept-cond (recClean u m) (recUndated s l (s .clock) (lacking c u .place)) (eqb (lacking c u .number) 0)
-      (record { state = k; losses = g }) (record { state = kept-refl s; losses = goes-refl l }))
+      (record { state = k; losses = g }) (record { state = kept-refl s; losses = extends-refl l }))
 
   -- the source's step, 13, and one tick of work
   pub rec-advanced-kept : (s : Run) (l : Losses) → KeptRecorded (c .n) s l (recAdvanced c s l)

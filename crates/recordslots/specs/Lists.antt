@@ -23,10 +23,10 @@ use native.Mathlib.Omega.{arith}
 use lib.ListN.{length}
 use lib.Seq.{ext-getD}
 use Rattle.state.specs.declared.Run.{Run}
-use Rattle.losses.specs.Losses.{loss, noLoss, entryAt, noted, Goes, goes-refl, goes-trans, goes-noted}
+use Rattle.losses.specs.Losses.{loss, noLoss, entryAt, noted, Extends, extends-refl, extends-trans, extends-noted}
 use Rattle.losses.specs.declared.Losses.{Losses}
 use Rattle.recordings.specs.Steps.{recClean, recGoes, recOnward}
-use Rattle.recordings.specs.Runs.{rec-onward-cases}
+use Rattle.recordings.specs.Runs.{rec-onward-elim}
 use Rattle.recordings.specs.declared.RecordOutcome.{RecordOutcome}
 use Rattle.recordings.specs.declared.RecordOutcome.the-variants.{Clean, NoDeadline, ListFull}
 use Rattle.recordings.specs.declared.Recorded.{Recorded}
@@ -46,17 +46,17 @@ losses-refl l = record { count = refl; long = refl; entries = λ k h. refl }
 pub alike-noted : {l m : Losses} → AlikeLosses l m → (t q : ℕ) {p r : ℕ} → p ≡ r → AlikeLosses (noted l t q p) (noted m t q r)
 alike-noted {l} {m} a t q {p} e = rw (← e) (record {
   count = ap (λ (k : ℕ). k + 1) (a .count);
-  long = goes-noted l t q p .long ∙ a .long ∙ sym (goes-noted m t q p .long);
+  long = extends-noted l t q p .long ∙ a .long ∙ sym (extends-noted m t q p .long);
   entries = λ k h. by-cases (ℕ-discrete k (l .count))
       (λ f. rw (f, a .count) (set-same (l .entries) (m .entries) (m .count) (loss t q p) noLoss (a .long)))
       (λ ne. older k (omega (arith, ne)));
 })
   where
     older : (k : ℕ) → k < l .count → entryAt (noted l t q p) k ≡ entryAt (noted m t q p) k
-    older k h = goes-noted l t q p .before k h ∙ a .entries k h ∙ sym (goes-noted m t q p .before k (omega (arith, a .count)))
+    older k h = extends-noted l t q p .before k h ∙ a .entries k h ∙ sym (extends-noted m t q p .before k (omega (arith, a .count)))
 
 -- lists that have the same entries, and past them the slots of one list
-pub same-losses : {l x y : Losses} → Goes l x → Goes l y → AlikeLosses x y → x ≡ y
+pub same-losses : {l x y : Losses} → Extends l x → Extends l y → AlikeLosses x y → x ≡ y
 same-losses {l} {x} {y} g h a = λ i. record { count = a .count i; entries = ext-getD noLoss (x .entries) (y .entries) (a .long) each i }
   where
     each : (k : ℕ) → k < length (x .entries) → entryAt x k ≡ entryAt y k
@@ -71,7 +71,7 @@ pub record AlikeRecorded (n : ℕ) (x y : Recorded) : Type 0 where
 -- a state that has another's slots past n, and a list that went on from another, of which it has the slots past its own count
 pub record KeptRecorded (n : ℕ) (s : Run) (l : Losses) (x : Recorded) : Type 0 where
   pub state : KeptSlots n s (x .run)
-  pub losses : Goes l (x .losses)
+  pub losses : Extends l (x .losses)
 
 -- what is alike, and has the slots of one state and of one list where it may differ, is the same
 pub same-recorded : {n : ℕ} {s : Run} {l : Losses} {x y : Recorded} → KeptRecorded n s l x → KeptRecorded n s l y → AlikeRecorded n x y → x ≡ y
@@ -86,7 +86,7 @@ rec-alike-clean r a = record { outcome = refl; state = r; losses = a }
 
 -- and keeps the list
 pub rec-kept-clean : {n : ℕ} {s u : Run} (l : Losses) → KeptSlots n s u → KeptRecorded n s l (recClean u l)
-rec-kept-clean l k = record { state = k; losses = goes-refl l }
+rec-kept-clean l k = record { state = k; losses = extends-refl l }
 
 -- one of two is taken
 pub rec-alike-cond : {n : ℕ} {x y u v : Recorded} {b d : Bool} → b ≡ d → AlikeRecorded n x u → AlikeRecorded n y v → AlikeRecorded n (cond b x y) (cond d u v)
@@ -114,9 +114,9 @@ rec-alike-onward {n} {x} {y} f g a h = rw (← a .outcome) (by (x .outcome))
 
 -- both of which keep the slots of a state and of a list
 pub rec-kept-onward : {n : ℕ} {s : Run} {l : Losses} (x : Recorded) (f : Run → Losses → Recorded) → KeptRecorded n s l x
-    → ((u : Run) (m : Losses) → KeptSlots n s u → Goes l m → KeptRecorded n s l (f u m)) → KeptRecorded n s l (recOnward x f)
-rec-kept-onward {n} {s} {l} x f k h = rec-onward-cases x f (KeptRecorded n s l) (λ ended. k) (λ went. h (x .run) (x .losses) (k .state) (k .losses))
+    → ((u : Run) (m : Losses) → KeptSlots n s u → Extends l m → KeptRecorded n s l (f u m)) → KeptRecorded n s l (recOnward x f)
+rec-kept-onward {n} {s} {l} x f k h = rec-onward-elim x f (KeptRecorded n s l) (λ ended. k) (λ went. h (x .run) (x .losses) (k .state) (k .losses))
 
 -- what keeps the slots of a state and of a list that have kept those of others
-pub rec-kept-then : {n : ℕ} {s u : Run} {l m : Losses} {x : Recorded} → KeptSlots n s u → Goes l m → KeptRecorded n u m x → KeptRecorded n s l x
-rec-kept-then k g h = record { state = kept-trans k (h .state); losses = goes-trans g (h .losses) }
+pub rec-kept-then : {n : ℕ} {s u : Run} {l m : Losses} {x : Recorded} → KeptSlots n s u → Extends l m → KeptRecorded n u m x → KeptRecorded n s l x
+rec-kept-then k g h = record { state = kept-trans k (h .state); losses = extends-trans g (h .losses) }

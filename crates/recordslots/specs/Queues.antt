@@ -8,12 +8,11 @@ use Prim.Native.Nat.{ℕ, zero, suc, _<_}
 use native.Mathlib.Omega.{arith}
 use Rattle.chain.specs.declared.Chain.{Chain}
 use Rattle.state.specs.Fired.{fired}
-use Rattle.state.specs.Checks.{cramped}
+use Rattle.state.specs.Checks.{cramped, cramped-is}
 use Rattle.state.specs.declared.Run.{Run}
 use Rattle.instants.specs.Steps.{clean, overflowed, withDone, divides, sourced, ended, finish, finished}
 use Rattle.instants.specs.declared.Outcome.{Outcome}
 use Rattle.instants.specs.declared.Outcome.the-variants.{Clean, Overflowed, NoDeadline}
-use Rattle.recordings.specs.Drops.{cramped-is}
 
 -- the queue that overflowed, if one did, is one of the first n
 abbrev pub Queued : ℕ → Outcome → Type 0

@@ -10,21 +10,20 @@
 --   over c s i, over-true      whether N_i may fire
 --   idle c s i, overCheck c s i
 --                              11: there is no such node, or it may not fire
---   cramped c s i, roomCheck c s i
+--   cramped c s i, Cramped c s i, roomCheck c s i
 --                              12: the firing would pass the capacity of the output queue
 --   queueTest, BrokenAt, SteadyAt, FirstBrokenAt
 --                              17 of one queue, its reasons in words and the lowest queue that has one, over the two sides of each queue's balance
 --   queue-silent, -says, queues-exact, -silent, -only
 --                              their laws
---   putIn, accounted c s i     the two sides of the balance
 --   Broken, Steady             17's reasons in words: the queue has one of them, or none
 --   FirstBroken                the lowest queue that has one
 --   StateSound c s             a state that passes 17
+--   cramped-is, -room, -or     the test of 12 holds exactly where the production does not fit, and fails exactly where it does; one of them is so
 --   state-, count-, over-, room-exact
 --                              each check speaks exactly under its condition
 --   state-, count-, over-, room-silent
 --                              and is silent exactly elsewhere
---   steady-silent, broken-says 17 of one queue: silent where it has no reason, and speaking where it has one
 --   state-, count-, over-, room-only
 --                              and speaks with its own number
 --   Planned c l, planned-run, Ruled q k, ruled
@@ -56,7 +55,7 @@ use Rattle.sizing.specs.Checks.{limit}
 use Rattle.sizing.specs.Accepted.{run-accepts}
 use Rattle.sizing.specs.Plan.{Plans, RunPlans}
 use Rattle.state.specs.State.{countAt, heldAt, doneAt}
-use Rattle.state.specs.Fired.{Over, Room}
+use Rattle.state.specs.Fired.{Over, Room, supplied, accounted}
 use Rattle.state.specs.declared.Run.{Run}
 
 -- a queue's balance is broken, it holds more than its capacity, or its consumer has work done of e or more
@@ -102,6 +101,10 @@ overCheck c s i = test 11 i (idle c s i)
 unfoldable pub cramped : Chain → Run → ℕ → Bool
 unfolding capacity least
 cramped c s i = ltb i (c .n) && ltb (capacityOf (rowOf c i)) (heldAt s i + rowOf c i .produce)
+
+-- the same in words
+abbrev pub Cramped : Chain → Run → ℕ → Type 0
+Cramped c s i = (i < c .n) × (capacityOf (rowOf c i) < heldAt s i + rowOf c i .produce)
 
 -- 12 of a manual firing, place the queue
 abbrev pub roomCheck : Chain → Run → ℕ → Refusal
@@ -150,49 +153,34 @@ module _ (c : Chain) (s : Run) (left right : ℕ → ℕ) where
   pub queues-only : Only 17 (first (tab (c .n) queueTest))
   queues-only = only-tab 17 queueTest (λ i. only-test 17 i (brokenUnless (eqb (left i) (right i)) (rowOf c i) (workOf c i) (heldAt s i) (doneAt s i))) (c .n)
 
--- the two sides of the balance: what a queue started with and "p × producer's count", what is held and "c × consumer's count"
-abbrev pub putIn : Chain → Run → ℕ → ℕ
-putIn c s i = start (rowOf c i) + rowOf c i .produce * countAt s i
-
-abbrev pub accounted : Chain → Run → ℕ → ℕ
-accounted c s i = heldAt s i + rowOf c i .consume * countAt s (suc i)
-
 -- 17's reasons at queue i, one of which is enough
 abbrev pub Broken : Chain → Run → ℕ → Type 0
-Broken c s = BrokenAt c s (putIn c s) (accounted c s)
+Broken c s = BrokenAt c s (supplied c s) (accounted c s)
 
 -- and none of them
 abbrev pub Steady : Chain → Run → ℕ → Type 0
-Steady c s = SteadyAt c s (putIn c s) (accounted c s)
+Steady c s = SteadyAt c s (supplied c s) (accounted c s)
 
 -- 17 in words: L is the lowest queue that has one
 abbrev pub FirstBroken : Chain → Run → ℕ → Type 0
-FirstBroken c s = FirstBrokenAt c s (putIn c s) (accounted c s)
+FirstBroken c s = FirstBrokenAt c s (supplied c s) (accounted c s)
 
 -- every queue of the chain has none
 abbrev pub StateSound : Chain → Run → Type 0
 StateSound c s = (i : ℕ) → i < c .n → Steady c s i
 
 module _ (c : Chain) (s : Run) where
-  pub steady-silent : (i : ℕ) → Silent (stateTest c s i) ↔ Steady c s i
-  unfolding broken
-  steady-silent = queue-silent c s (putIn c s) (accounted c s)
-
-  pub broken-says : (i L : ℕ) → (stateTest c s i ≡ refused 17 L) ↔ (Broken c s i × (L ≡ i))
-  unfolding broken
-  broken-says = queue-says c s (putIn c s) (accounted c s)
-
   pub state-exact : (L : ℕ) → (stateCheck c s ≡ refused 17 L) ↔ FirstBroken c s L
   unfolding stateCheck broken
-  state-exact = queues-exact c s (putIn c s) (accounted c s)
+  state-exact = queues-exact c s (supplied c s) (accounted c s)
 
   pub state-silent : Silent (stateCheck c s) ↔ StateSound c s
   unfolding stateCheck broken
-  state-silent = queues-silent c s (putIn c s) (accounted c s)
+  state-silent = queues-silent c s (supplied c s) (accounted c s)
 
   pub state-only : Only 17 (stateCheck c s)
   unfolding stateCheck broken
-  state-only = queues-only c s (putIn c s) (accounted c s)
+  state-only = queues-only c s (supplied c s) (accounted c s)
 
   pub over-true : (i : ℕ) → (over c s i ≡ true) ↔ Over c s i
   over-true zero = (λ e. tt, λ e. refl)
@@ -204,9 +192,12 @@ module _ (c : Chain) (s : Run) where
   pub over-exact : (i L : ℕ) → (overCheck c s i ≡ refused 11 L) ↔ (((c .n < i) ⊎ (Over c s i → ⊥)) × (L ≡ i))
   over-exact i L = Iff·trans (test-exact 11 L i (λ e. omega arith) _) (Iff·and (or-true (below-true _ _) (negated-true (over-true i))) Iff·rfl)
 
-  pub room-exact : (i L : ℕ) → (roomCheck c s i ≡ refused 12 L) ↔ (((i < c .n) × (capacityOf (rowOf c i) < heldAt s i + rowOf c i .produce)) × (L ≡ i))
+  pub cramped-is : (i : ℕ) → (cramped c s i ≡ true) ↔ Cramped c s i
   unfolding cramped
-  room-exact i L = Iff·trans (test-exact 12 L i (λ e. omega arith) _) (Iff·and (and-true (below-true _ _) (below-true _ _)) Iff·rfl)
+  cramped-is i = and-true (below-true _ _) (below-true _ _)
+
+  pub room-exact : (i L : ℕ) → (roomCheck c s i ≡ refused 12 L) ↔ (Cramped c s i × (L ≡ i))
+  room-exact i L = Iff·trans (test-exact 12 L i (λ e. omega arith) _) (Iff·and (cramped-is i) Iff·rfl)
 
   pub count-silent : (i : ℕ) → i ≤ c .n → Silent (countCheck c s i) ↔ (countAt s i ≢ limit)
   count-silent i l = Iff·trans (test-silent 9 i (λ e. omega arith) _) (Iff·trans (and-false (upto-false _ _) (unequal _ _)) (⊎-elim (λ (f : c .n < i). absurd (omega arith)) (λ n. n), inr))
@@ -217,15 +208,25 @@ module _ (c : Chain) (s : Run) where
   pub over-silent : (i : ℕ) → Silent (overCheck c s i) ↔ ((i ≤ c .n) × Over c s i)
   over-silent i = Iff·trans (test-silent 11 i (λ e. omega arith) _) (or-false (below-false _ _) (negated-false (over-true i)))
 
-  pub room-silent : (i : ℕ) → Silent (roomCheck c s i) ↔ Room c s i
+  pub cramped-room : (i : ℕ) → (cramped c s i ≡ false) ↔ Room c s i
   unfolding cramped
-  room-silent i = Iff·trans (test-silent 12 i (λ e. omega arith) _) (Iff·trans (and-false (below-false _ _) (below-false _ _)) (out, back))
+  cramped-room i = Iff·trans (and-false (below-false _ _) (below-false _ _)) (out, back)
     where
       out : (c .n ≤ i) ⊎ (heldAt s i + rowOf c i .produce ≤ capacityOf (rowOf c i)) → Room c s i
       out h l = ⊎-elim (λ m. absurd (omega arith)) (λ f. f) h
 
       back : Room c s i → (c .n ≤ i) ⊎ (heldAt s i + rowOf c i .produce ≤ capacityOf (rowOf c i))
       back r = by-cases (decLt i (c .n)) (λ l. inr (r l)) (λ n. inl (omega arith))
+
+  pub cramped-or : (i : ℕ) → Cramped c s i ⊎ Room c s i
+  cramped-or i = by (cramped c s i) refl
+    where
+      by : (b : Bool) → cramped c s i ≡ b → Cramped c s i ⊎ Room c s i
+      by true e = inl (cramped-is i .0 e)
+      by false e = inr (cramped-room i .0 e)
+
+  pub room-silent : (i : ℕ) → Silent (roomCheck c s i) ↔ Room c s i
+  room-silent i = Iff·trans (test-silent 12 i (λ e. omega arith) _) (cramped-room i)
 
   pub count-only : (i : ℕ) → Only 9 (countCheck c s i)
   count-only i = only-test 9 i (spent c s i)

@@ -10,8 +10,10 @@
 --   held-output, -input, -other, -sink
 --                            its output queue has p more and its input queue c less, said with no minus; every other queue is as it was
 --   counts-, holds-length    a firing keeps the number of slots
---   Balance c s j            what was put into queue j is what it holds and what was taken out
---   BalanceWith c s j x      and x tokens besides
+--   supplied, accounted c s j
+--                            what queue j started with and was given, and what it holds and what was taken out
+--   Balance c s j            which are the same
+--   BalanceWith c s j x      or x tokens more were lost
 --   Slots n s, slots-kept    the state has a slot for each node and queue, and a firing keeps them
 --   balance-with-kept, balance-kept
 --                            a firing keeps each queue's balance
@@ -133,15 +135,22 @@ module _ (c : Chain) (s : Run) where
   unfolding fired
   holds-length i = length-consumed c i _ ∙ length-produced c i (s .held)
 
--- the balance of queue j as a sum: what it started with and "p × producer's count" make what is held and "c × consumer's count"
+-- the two sides of queue j's balance: what it started with and "p × producer's count", what is held and "c × consumer's count"
+abbrev pub supplied : Chain → Run → ℕ → ℕ
+supplied c s j = start (rowOf c j) + rowOf c j .produce * countAt s j
+
+abbrev pub accounted : Chain → Run → ℕ → ℕ
+accounted c s j = heldAt s j + rowOf c j .consume * countAt s (suc j)
+
+-- the balance of queue j, as a sum
 abbrev pub Balance : Chain → Run → ℕ → Type 0
-Balance c s j = start (rowOf c j) + rowOf c j .produce * countAt s j ≡ heldAt s j + rowOf c j .consume * countAt s (suc j)
+Balance c s j = supplied c s j ≡ accounted c s j
 
--- the same with x tokens that were put in and are no more
+-- and with x tokens that were produced and lost
 abbrev pub BalanceWith : Chain → Run → ℕ → ℕ → Type 0
-BalanceWith c s j x = start (rowOf c j) + rowOf c j .produce * countAt s j ≡ heldAt s j + rowOf c j .consume * countAt s (suc j) + x
+BalanceWith c s j x = supplied c s j ≡ accounted c s j + x
 
--- the arithmetic of one queue, of which l tokens are no more: its producer fires, its consumer fires, neither does
+-- the arithmetic of one queue, of which l tokens are lost: its producer fires, its consumer fires, neither does
 put-balance : (s p c N M x l N′ M′ x′ : ℕ) → N′ ≡ N + 1 → M′ ≡ M → x′ ≡ x + p → s + p * N ≡ x + c * M + l → s + p * N′ ≡ x′ + c * M′ + l
 put-balance s p c N M x l N′ M′ x′ e f g b = rw (e, f, g) (omega (arith, b))
 

@@ -1,13 +1,15 @@
--- A recording run beside the deadline run (02, Item 2): of any chain that is accepted, its capacities at or above the minimum or below.
+-- A recording run beside the deadline run (02, Item 2), of any accepted chain, its capacities at or above the minimum or below.
 --   recorded-clean, -undated, -lost, -full
 --                              what a step of the deadline run is in a recording run: the same where it is clean or 13, a loss or 15 where it overflows
---   tick-same                  where the source's production is not dropped, a recording tick is the deadline tick with its effect recorded
---   ticks-same                 so many ticks, up to an overflow for which the list has room
---   same-clean, -undated       so as long as nothing overflows a recording run is the deadline run
---   same-full                  and with a full list it ends where that would overflow, with the state that the overflow leaves
+--   tick-beside                where the source's production is not dropped, a recording tick is the deadline tick with its effect recorded
+--   ticks-beside               so many ticks, up to an overflow for which the list has room
+--   beside-clean, -undated     so as long as nothing overflows a recording run is the deadline run
+--   beside-full                and with a full list it ends where that would overflow, with the state that the overflow leaves
 --   TakenBack, NextLoss        13 has taken back what the source's step lost; the next entry is that of a loss at t and queue q
 --   first-loss                 where the deadline run would overflow at t and queue q, and the list has room, it is one of these
---   nothing-lost               so where a recording run is clean and its list is as it was, it is the deadline run
+--   TakenBackThen c T s l      the deadline run overflows where 13 has taken back the loss
+--   nothing-lost, nothing-lost-clean
+--                              a recording run that has lost nothing is the deadline run, or it is so; one that is clean is it
 use mathlib.Core.Path.{_≡_, refl, sym, ap, subst, _∙_}
 use mathlib.Core.Logic.{_⊎_, inl, inr, ⊎-elim, by-cases}
 use mathlib.Core.Bool.{Bool, true, false, cond}
@@ -19,28 +21,24 @@ use borrow.Author.Tests.{le-ltb}
 use Rattle.chain.specs.Record.{rowOf}
 use Rattle.chain.specs.declared.Chain.{Chain}
 use Rattle.state.specs.declared.Run.{Run}
-use Rattle.instants.specs.Steps.{kindOf, clean, overflowed, undated, onward, sourced, lacking, begun, chosen, worked, finished, tick, ticks}
+use Rattle.instants.specs.Steps.{clean, overflowed, undated, onward, sourced, lacking, begun, chosen, worked, finished, tick, ticks}
 use Rattle.instants.specs.Steps.{tickOf, atOf}
-use Rattle.instants.specs.Runs.{unclean-overflow, clean-or, onward-goes, onward-stops, ticks-none, ticks-suc}
+use Rattle.instants.specs.Runs.{unclean-overflow, overflow-undated, clean-or, onward-goes, onward-stops, ticks-none, ticks-suc}
 use Rattle.instants.specs.Kept.{source-cases, begun-clean, begun-over, chosen-low, chosen-over, tick-begun, tick-ends, tick-step}
 use Rattle.instants.specs.Filled.{Filled}
 use Rattle.instants.specs.declared.Outcome.{Outcome}
 use Rattle.instants.specs.declared.Outcome.the-variants as plain
 use Rattle.instants.specs.declared.Ticked.{Ticked}
 use Rattle.traces.specs.Trace.{sourceEntry}
-use Rattle.losses.specs.Losses.{loss, entryAt, noted, Listed, is-noted, Goes}
+use Rattle.losses.specs.Losses.{loss, entryAt, noted, Listed, is-noted, Extends}
 use Rattle.losses.specs.declared.Losses.{Losses}
 use Rattle.recordings.specs.Steps.{recClean, recUndated, recFull, recOnward, lostFiring, recorded, recSourced, recBegun, recFinished, recTick, recTicks}
-use Rattle.recordings.specs.Runs.{rec-clean-or, rec-unclean-undated, rec-unclean-full, rec-onward-cases, rec-onward-goes, rec-onward-stops, rec-ticks-none, rec-ticks-suc}
+use Rattle.recordings.specs.Runs.{rec-clean-or, rec-unclean-undated, rec-unclean-full, rec-onward-elim, rec-onward-goes, rec-onward-stops, rec-ticks-none, rec-ticks-suc}
 use Rattle.recordings.specs.Cases.{loss-cases, rec-begun-cases, rec-tick-begun, rec-tick-ends, rec-tick-works}
-use Rattle.recordings.specs.Kept.{SourceLeads, begun-leads, work-leads, tick-leads, ticks-lead}
-use Rattle.recordings.specs.Trace.{marked}
+use Rattle.recordings.specs.Kept.{Led, clean-room, begun-leads, work-leads, tick-leads, ticks-lead}
+use Rattle.recordings.specs.Trace.{marked, recTracing}
 use Rattle.recordings.specs.declared.RecordOutcome.the-variants.{Clean, NoDeadline}
 use Rattle.recordings.specs.declared.Recorded.{Recorded}
-
--- 13 is no overflow
-undated-overflow : {t i a q : ℕ} → plain.NoDeadline t i ≡ plain.Overflowed a q → ⊥
-undated-overflow e = let z : _≡_ {A = ℕ} 2 1 = ap kindOf e in absurd (omega arith)
 
 -- a step of the deadline run in a recording run
 module _ (c : Chain) (l : Losses) (x : Ticked) where
@@ -78,9 +76,9 @@ recorded-onward c l x f g full same = by (x .outcome) full same
 
 module _ (c : Chain) (s : Run) (l : Losses) where
   -- the source's step and 13
-  begun-same : (sourced c s .outcome ≡ plain.Clean) ⊎ (256 ≤ l .count) → recBegun c s l ≡ recorded c l (begun c s)
+  begun-beside : (sourced c s .outcome ≡ plain.Clean) ⊎ (256 ≤ l .count) → recBegun c s l ≡ recorded c l (begun c s)
   unfolding recBegun begun recSourced recorded
-  begun-same h = recorded-onward c l (sourced c s) _ _
+  begun-beside h = recorded-onward c l (sourced c s) _ _
       (λ t q e. ⊎-elim (λ z. absurd (unclean-overflow (sym e ∙ z))) (λ m. m) h)
       (λ z. by (sourced c s .run) (eqb (lacking c (sourced c s .run) .number) 0))
     where
@@ -96,14 +94,14 @@ module _ (c : Chain) (s : Run) (l : Losses) where
     where
       by : (b : Bool) → (cond b (clean (sourced c s .run)) (undated s (s .clock) (lacking c (sourced c s .run) .place))) .outcome ≡ plain.Overflowed t q → ⊥
       by true h = unclean-overflow (sym h)
-      by false h = undated-overflow h
+      by false h = overflow-undated (sym h)
 
   -- where the source's production is not dropped, a recording tick is the deadline tick with its effect recorded
-  pub tick-same : (sourced c s .outcome ≡ plain.Clean) ⊎ (256 ≤ l .count) → recTick c s l ≡ recorded c l (tick c s)
+  pub tick-beside : (sourced c s .outcome ≡ plain.Clean) ⊎ (256 ≤ l .count) → recTick c s l ≡ recorded c l (tick c s)
   unfolding recFinished recorded
-  tick-same h =
+  tick-beside h =
       rec-tick-begun c s l
-      ∙ ap (λ (x : Recorded). recOnward x (λ u m. recFinished c (worked u (chosen c u)) m)) (begun-same h)
+      ∙ ap (λ (x : Recorded). recOnward x (λ u m. recFinished c (worked u (chosen c u)) m)) (begun-beside h)
       ∙ recorded-onward c l (begun c s) (λ u. finished c (worked u (chosen c u))) _ (λ t q e. ⊎-elim (λ z. absurd (begun-spills e z)) (λ m. m) h) (λ z. refl)
       ∙ ap (λ (x : Ticked). recorded c l x) (sym (tick-begun c s))
 
@@ -122,13 +120,13 @@ module _ (c : Chain) where
   sourced-fine s l full = ⊎-elim inl (λ n. inr (full (s .clock) 0 (ap (λ (x : Ticked). x .outcome) (tick-spilled c s n)))) (clean-or (sourced c s .outcome))
 
   -- so many ticks, up to an overflow for which the list has room
-  pub ticks-same : (T : ℕ) (s : Run) (l : Losses) → ((t q : ℕ) → ticks c T s .outcome ≡ plain.Overflowed t q → 256 ≤ l .count) → recTicks c T s l ≡ recorded c l (ticks c T s)
+  pub ticks-beside : (T : ℕ) (s : Run) (l : Losses) → ((t q : ℕ) → ticks c T s .outcome ≡ plain.Overflowed t q → 256 ≤ l .count) → recTicks c T s l ≡ recorded c l (ticks c T s)
   unfolding recorded
-  ticks-same zero s l full = rec-ticks-none c s l ∙ ap (λ (x : Ticked). recorded c l x) (sym (ticks-none c s))
-  ticks-same (suc T) s l full =
+  ticks-beside zero s l full = rec-ticks-none c s l ∙ ap (λ (x : Ticked). recorded c l x) (sym (ticks-none c s))
+  ticks-beside (suc T) s l full =
       rec-ticks-suc c T s l
-      ∙ ap (λ (x : Recorded). recOnward x (recTicks c T)) (tick-same c s l (sourced-fine s l ends))
-      ∙ recorded-onward c l (tick c s) (ticks c T) (recTicks c T) ends (λ z. ticks-same T (tick c s .run) l (λ t q e. full t q (goes z ∙ e)))
+      ∙ ap (λ (x : Recorded). recOnward x (recTicks c T)) (tick-beside c s l (sourced-fine s l ends))
+      ∙ recorded-onward c l (tick c s) (ticks c T) (recTicks c T) ends (λ z. ticks-beside T (tick c s .run) l (λ t q e. full t q (goes z ∙ e)))
       ∙ ap (λ (x : Ticked). recorded c l x) (sym (ticks-suc c T s))
     where
       goes : tick c s .outcome ≡ plain.Clean → ticks c (suc T) s .outcome ≡ ticks c T (tick c s .run) .outcome
@@ -138,14 +136,14 @@ module _ (c : Chain) where
       ends t q e = full t q (ap (λ (x : Ticked). x .outcome) (ticks-suc c T s ∙ onward-stops (tick c s) (ticks c T) (λ z. unclean-overflow (sym e ∙ z))) ∙ e)
 
   -- so where they are clean, end with 13, or overflow and the list is full
-  pub same-clean : (T : ℕ) (s : Run) (l : Losses) → ticks c T s .outcome ≡ plain.Clean → recTicks c T s l ≡ recClean (ticks c T s .run) l
-  same-clean T s l z = ticks-same T s l (λ t q e. absurd (unclean-overflow (sym e ∙ z))) ∙ recorded-clean c l (ticks c T s) z
+  pub beside-clean : (T : ℕ) (s : Run) (l : Losses) → ticks c T s .outcome ≡ plain.Clean → recTicks c T s l ≡ recClean (ticks c T s .run) l
+  beside-clean T s l z = ticks-beside T s l (λ t q e. absurd (unclean-overflow (sym e ∙ z))) ∙ recorded-clean c l (ticks c T s) z
 
-  pub same-undated : (T : ℕ) (s : Run) (l : Losses) (t i : ℕ) → ticks c T s .outcome ≡ plain.NoDeadline t i → recTicks c T s l ≡ recUndated (ticks c T s .run) l t i
-  same-undated T s l t i z = ticks-same T s l (λ a q e. absurd (undated-overflow (sym z ∙ e))) ∙ recorded-undated c l (ticks c T s) t i z
+  pub beside-undated : (T : ℕ) (s : Run) (l : Losses) (t i : ℕ) → ticks c T s .outcome ≡ plain.NoDeadline t i → recTicks c T s l ≡ recUndated (ticks c T s .run) l t i
+  beside-undated T s l t i z = ticks-beside T s l (λ a q e. absurd (overflow-undated (sym e ∙ z))) ∙ recorded-undated c l (ticks c T s) t i z
 
-  pub same-full : (T : ℕ) (s : Run) (l : Losses) → 256 ≤ l .count → (t q : ℕ) → ticks c T s .outcome ≡ plain.Overflowed t q → recTicks c T s l ≡ recFull (ticks c T s .run) l t q
-  same-full T s l full t q e = ticks-same T s l (λ a b f. full) ∙ recorded-full c l (ticks c T s) full t q e
+  pub beside-full : (T : ℕ) (s : Run) (l : Losses) → 256 ≤ l .count → (t q : ℕ) → ticks c T s .outcome ≡ plain.Overflowed t q → recTicks c T s l ≡ recFull (ticks c T s .run) l t q
+  beside-full T s l full t q e = ticks-beside T s l (λ a b f. full) ∙ recorded-full c l (ticks c T s) full t q e
 
 -- 13 came at t and has taken back what the source's step lost: the state and the list are as they were before the tick
 pub record TakenBack (l : Losses) (t q : ℕ) (u : Run) (x : Recorded) : Type 0 where
@@ -159,13 +157,12 @@ pub record NextLoss (c : Chain) (l : Losses) (t q : ℕ) (x : Recorded) : Type 0
   pub entry : entryAt (x .losses) (l .count) ≡ loss t q (rowOf c q .produce)
 
 -- a list that goes on from one with that entry has it
-next-goes : {c : Chain} {l : Losses} {t q : ℕ} {x y : Recorded} → NextLoss c l t q x → Goes (x .losses) (y .losses) → NextLoss c l t q y
+next-goes : {c : Chain} {l : Losses} {t q : ℕ} {x y : Recorded} → NextLoss c l t q x → Extends (x .losses) (y .losses) → NextLoss c l t q y
 next-goes {l = l} a g = record { more = omega (arith, a .more, g .more); entry = g .before (l .count) (a .more) ∙ a .entry }
 
 -- the list with that entry
 next-noted : {c : Chain} {l : Losses} → Listed l → l .count < 256 → (t q : ℕ) (s : Run) → NextLoss c l t q (recClean s (noted l t q (rowOf c q .produce)))
-next-noted {c} {l} k room t q s = let n = is-noted k room t q (rowOf c q .produce) in
-    record { more = omega arith; entry = λ i. record { tick = n .tick i; queue = n .queue i; tokens = n .tokens i } }
+next-noted {c} k room t q s = record { more = omega arith; entry = is-noted k room t q (rowOf c q .produce) .entry }
 
 module _ {c : Chain} {s : Run} (f : Filled c s) {l : Losses} (k : Listed l) (room : l .count < 256) where
   -- the source's production is dropped: 13 takes it back, or it is the next entry
@@ -173,7 +170,7 @@ module _ {c : Chain} {s : Run} (f : Filled c s) {l : Losses} (k : Listed l) (roo
   unfolding recSourced
   source-drops n = ⊎-elim
       (λ z.
-      let on = work-leads (b .filled) (b .leads .listed) (chosen c u) (chosen-low c u) (chosen-over c u) in
+      let on = work-leads (b .filled (clean-room z)) (b .leads .listed) (chosen c u) (chosen-low c u) (chosen-over c u) in
       inr (subst (NextLoss c l (s .clock) 0) (sym (rec-tick-works c s l z)) (next-goes (noted-after z) (on .leads .goes))))
       (λ m. inl (subst (TakenBack l (s .clock) 0 s) (sym (rec-tick-ends c s l m)) (taken m)))
       (rec-clean-or (recBegun c s l .outcome))
@@ -181,7 +178,7 @@ module _ {c : Chain} {s : Run} (f : Filled c s) {l : Losses} (k : Listed l) (roo
       u : Run
       u = recBegun c s l .run
 
-      b : SourceLeads c s l (marked c s (sourceEntry c s)) (recBegun c s l)
+      b : Led c s l (recTracing (recBegun c s l .outcome) (marked c s (sourceEntry c s))) (recBegun c s l)
       b = begun-leads f k
 
       drops : recSourced c s l ≡ recClean (lostFiring c s 0) (noted l (s .clock) 0 (rowOf c 0 .produce))
@@ -202,7 +199,7 @@ module _ {c : Chain} {s : Run} (f : Filled c s) {l : Losses} (k : Listed l) (roo
   -- one tick that overflows as a deadline tick
   tick-loses : (t q : ℕ) → tick c s .outcome ≡ plain.Overflowed t q → TakenBack l t q (tick c s .run) (recTick c s l) ⊎ NextLoss c l t q (recTick c s l)
   tick-loses t q e = ⊎-elim
-      (λ z. inr (subst (NextLoss c l t q) (sym (tick-same c s l (inl z) ∙ recorded-lost c l (tick c s) room t q e)) (next-noted k room t q (lostFiring c (tick c s .run) q))))
+      (λ z. inr (subst (NextLoss c l t q) (sym (tick-beside c s l (inl z) ∙ recorded-lost c l (tick c s) room t q e)) (next-noted k room t q (lostFiring c (tick c s .run) q))))
       (λ n.
       let is = tick-spilled c s n in
       let at : (s .clock ≡ t) × (0 ≡ q) = let o = ap (λ (x : Ticked). x .outcome) (sym is) ∙ e in (ap tickOf o, ap atOf o) in
@@ -213,9 +210,9 @@ module _ {c : Chain} {s : Run} (f : Filled c s) {l : Losses} (k : Listed l) (roo
 
   -- what is noted in a tick is there after any more
   next-stays : (T t q : ℕ) → NextLoss c l t q (recTick c s l) → NextLoss c l t q (recTicks c (suc T) s l)
-  next-stays T t q a = subst (NextLoss c l t q) (sym (rec-ticks-suc c T s l)) (rec-onward-cases (recTick c s l) (recTicks c T) (NextLoss c l t q)
+  next-stays T t q a = subst (NextLoss c l t q) (sym (rec-ticks-suc c T s l)) (rec-onward-elim (recTick c s l) (recTicks c T) (NextLoss c l t q)
       (λ n. a)
-      (λ z. let d = tick-leads f k in next-goes a (ticks-lead T (d .filled (λ b p e. rec-unclean-full (sym e ∙ z))) (d .leads .listed) .leads .goes)))
+      (λ z. let d = tick-leads f k in next-goes a (ticks-lead T (d .filled (clean-room z)) (d .leads .listed) .leads .goes)))
 
 -- "where that would overflow at (t, q) and the list has room, the next entry is (t, q, p of q), unless 13 comes at t and takes a source's loss back"
 pub first-loss : {c : Chain} (T : ℕ) {s : Run} → Filled c s → {l : Losses} → Listed l → l .count < 256 → (t q : ℕ) → ticks c T s .outcome ≡ plain.Overflowed t q
@@ -239,17 +236,35 @@ first-loss {c} (suc T) {s} f {l} k room t q e = ⊎-elim
 
     rec-goes : tick c s .outcome ≡ plain.Clean → recOnward (recTick c s l) (recTicks c T) ≡ recTicks c T (tick c s .run) l
     rec-goes z =
-        let is : recTick c s l ≡ recClean (tick c s .run) l = tick-same c s l (sourced-fine c s l (λ a p h. absurd (unclean-overflow (sym h ∙ z)))) ∙ recorded-clean c l (tick c s) z in
+        let is : recTick c s l ≡ recClean (tick c s .run) l = tick-beside c s l (sourced-fine c s l (λ a p h. absurd (unclean-overflow (sym h ∙ z)))) ∙ recorded-clean c l (tick c s) z in
         ap (λ (x : Recorded). recOnward x (recTicks c T)) is ∙ rec-onward-goes (recClean (tick c s .run) l) (recTicks c T) refl
 
--- so a recording run that is clean and has lost nothing is the deadline run
-pub nothing-lost : {c : Chain} (T : ℕ) {s : Run} → Filled c s → {l : Losses} → Listed l → recTicks c T s l .outcome ≡ Clean → recTicks c T s l .losses .count ≡ l .count
-    → ticks c T s ≡ clean (recTicks c T s l .run)
-nothing-lost {c} T {s} f {l} k z same = by (ticks c T s .outcome) refl
-  where
-    by : (o : Outcome) → ticks c T s .outcome ≡ o → ticks c T s ≡ clean (recTicks c T s l .run)
-    by plain.Clean e = (λ i. record { outcome = e i; run = ticks c T s .run }) ∙ ap (λ (x : Recorded). clean (x .run)) (sym (same-clean c T s l e))
-    by (plain.NoDeadline t i) e = absurd (rec-unclean-undated (ap (λ (x : Recorded). x .outcome) (sym (same-undated c T s l t i e)) ∙ z))
-    by (plain.Overflowed t q) e = absurd (by-cases (decLt (l .count) 256)
-        (λ room. ⊎-elim (λ a. rec-unclean-undated (ap (λ (x : Recorded). x .outcome) (sym (a .is)) ∙ z)) (λ a. omega (arith, a .more, same)) (first-loss T f k room t q e))
-        (λ full. rec-unclean-full (ap (λ (x : Recorded). x .outcome) (sym (same-full c T s l (omega arith) t q e)) ∙ z)))
+-- the deadline run overflows at the source, at an instant at which 13 has taken back the loss of the recording run
+pub record TakenBackThen (c : Chain) (T : ℕ) (s : Run) (l : Losses) : Type 0 where
+  pub tick : ℕ
+  pub queue : ℕ
+  pub overflows : ticks c T s .outcome ≡ plain.Overflowed tick queue
+  pub taken : TakenBack l tick queue (ticks c T s .run) (recTicks c T s l)
+
+-- "as long as nothing is lost it is the deadline run's definition", whatever the outcome, but for a loss that 13 has taken back
+module _ {c : Chain} (T : ℕ) {s : Run} (f : Filled c s) {l : Losses} (k : Listed l) where
+  pub nothing-lost : recTicks c T s l .losses .count ≡ l .count → (recTicks c T s l ≡ recorded c l (ticks c T s)) ⊎ TakenBackThen c T s l
+  nothing-lost same = by (ticks c T s .outcome) refl
+    where
+      by : (o : Outcome) → ticks c T s .outcome ≡ o → (recTicks c T s l ≡ recorded c l (ticks c T s)) ⊎ TakenBackThen c T s l
+      by plain.Clean e = inl (ticks-beside c T s l (λ t q z. absurd (unclean-overflow (sym z ∙ e))))
+      by (plain.NoDeadline t i) e = inl (ticks-beside c T s l (λ a q z. absurd (overflow-undated (sym z ∙ e))))
+      by (plain.Overflowed t q) e = by-cases (decLt (l .count) 256)
+          (λ room. ⊎-elim (λ a. inr (record { tick = t; queue = q; overflows = e; taken = a })) (λ a. absurd (omega (arith, a .more, same))) (first-loss T f k room t q e))
+          (λ full. inl (ticks-beside c T s l (λ a b z. omega arith)))
+
+  -- so where it is clean the deadline run is, too, and leaves the same state
+  pub nothing-lost-clean : recTicks c T s l .outcome ≡ Clean → recTicks c T s l .losses .count ≡ l .count → ticks c T s ≡ clean (recTicks c T s l .run)
+  nothing-lost-clean z same = ⊎-elim (λ e. by (ticks c T s .outcome) refl e) (λ a. absurd (rec-unclean-undated (ap (λ (x : Recorded). x .outcome) (sym (a .taken .is)) ∙ z))) (nothing-lost same)
+    where
+      by : (o : Outcome) → ticks c T s .outcome ≡ o → recTicks c T s l ≡ recorded c l (ticks c T s) → ticks c T s ≡ clean (recTicks c T s l .run)
+      by plain.Clean e is = (λ i. record { outcome = e i; run = ticks c T s .run }) ∙ ap (λ (x : Recorded). clean (x .run)) (sym (is ∙ recorded-clean c l (ticks c T s) e))
+      by (plain.NoDeadline t i) e is = absurd (rec-unclean-undated (ap (λ (x : Recorded). x .outcome) (sym (is ∙ recorded-undated c l (ticks c T s) t i e)) ∙ z))
+      by (plain.Overflowed t q) e is = absurd (by-cases (decLt (l .count) 256)
+          (λ room. let n = ap (λ (x : Recorded). x .losses .count) (is ∙ recorded-lost c l (ticks c T s) room t q e) in omega (arith, n, same))
+          (λ full. rec-unclean-full (ap (λ (x : Recorded). x .outcome) (sym (is ∙ recorded-full c l (ticks c T s) (omega arith) t q e)) ∙ z)))
