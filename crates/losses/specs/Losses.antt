@@ -6,18 +6,19 @@
 --   noted l t q p              the list with one entry more
 --   lostIn j h, lost l j       the tokens of the entries of h, and of the list, that name queue j
 --   Listed l, listed-empty     a list of 256 slots, of which no more are entries; the empty list is one
+--   empty-slots                its slots are zero
 --   Noted l t q p m            m is l with the entry (t, q, p) more, slot by slot; noted-only: no other list is that
 --   Extends l m                m's first entries are l's, and from m's last entry on its slots are l's
 --   extends-refl, -trans, -noted
 --                              a list extends itself, from list to list, and by one entry
---   is-noted, listed-noted, noted-entries
---                              what `noted` makes is such a list, has 256 slots again, and has the entries before and then this one
+--   is-noted, noted-slot, -slots, listed-noted, noted-entries
+--                              what `noted` makes is such a list, slot by slot, has 256 slots again, and has the entries before and then this one
 --   lost-append, lost-noted    the tokens of entries one after the other, and with one entry more
 use mathlib.Core.Path.{_≡_, refl, sym, ap, _∙_}
 use mathlib.Core.Logic.{_≢_, by-cases}
 use mathlib.Core.Bool.{cond}
 use mathlib.Core.List.{List, [], _∷_, _++_}
-use Prim.Native.Nat.{ℕ, _+_, _≤_, _<_}
+use Prim.Native.Nat.{ℕ, zero, suc, _+_, _≤_, _<_}
 use native.Mathlib.Decide.{ℕ-discrete}
 use native.Mathlib.Omega.{arith}
 use lib.Dec.{eqb}
@@ -67,6 +68,15 @@ pub record Listed (l : Losses) : Type 0 where
 
 pub listed-empty : Listed emptyLosses
 listed-empty = record { long = length-replicate {A = Loss} 256 noLoss; short = omega arith }
+
+-- every slot of the empty list is zero
+pub empty-slots : (i : ℕ) → entryAt emptyLosses i ≡ record { tick = 0; queue = 0; tokens = 0 }
+empty-slots i = same 256 i
+  where
+    same : (n k : ℕ) → getD (replicate n noLoss) k noLoss ≡ noLoss
+    same zero k = refl
+    same (suc n) zero = refl
+    same (suc n) (suc k) = same n k
 
 -- m has one entry more than l, at its end; every other slot is as it was
 pub record Noted (l : Losses) (t q p : ℕ) (m : Losses) : Type 0 where
@@ -130,6 +140,13 @@ module _ {l : Losses} (k : Listed l) (room : l .count < 256) (t q p : ℕ) where
     others = other l t q p;
     long = length-set (l .entries) (l .count) (loss t q p);
   }
+
+  -- the slots themselves, whatever is said of one that there is not: the entry stands in the slot of its number, and every other slot is as it was
+  pub noted-slot : (e : Loss) → getD (noted l t q p .entries) (l .count) e ≡ record { tick = t; queue = q; tokens = p }
+  noted-slot e = getD-set-same (l .entries) (l .count) (loss t q p) e slot
+
+  pub noted-slots : (e : Loss) (i : ℕ) → i ≢ l .count → getD (noted l t q p .entries) i e ≡ getD (l .entries) i e
+  noted-slots e i ne = getD-set-other (l .entries) (l .count) i (loss t q p) e ne
 
   pub listed-noted : Listed (noted l t q p)
   listed-noted = record { long = length-set (l .entries) (l .count) (loss t q p) ∙ k .long; short = omega arith }

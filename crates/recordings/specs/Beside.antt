@@ -5,7 +5,10 @@
 --   ticks-beside               so many ticks, up to an overflow for which the list has room
 --   beside-clean, -undated     so as long as nothing overflows a recording run is the deadline run
 --   beside-full                and with a full list it ends where that would overflow, with the state that the overflow leaves
+--   instants-clean, -undated, -full
+--                              the same of a run by instants
 --   TakenBack, NextLoss        13 has taken back what the source's step lost; the next entry is that of a loss at t and queue q
+--   finish-lost                a firing that was finished before and does not fit is noted
 --   first-loss                 where the deadline run would overflow at t and queue q, and the list has room, it is one of these
 --   TakenBackThen c T s l      the deadline run overflows where 13 has taken back the loss
 --   nothing-lost, nothing-lost-clean
@@ -21,9 +24,9 @@ use borrow.Author.Tests.{le-ltb}
 use Rattle.chain.specs.Record.{rowOf}
 use Rattle.chain.specs.declared.Chain.{Chain}
 use Rattle.state.specs.declared.Run.{Run}
-use Rattle.instants.specs.Steps.{clean, overflowed, undated, onward, sourced, lacking, begun, chosen, worked, finished, tick, ticks}
+use Rattle.instants.specs.Steps.{clean, overflowed, undated, onward, sourced, lacking, begun, chosen, worked, finished, tick, ticks, instants}
 use Rattle.instants.specs.Steps.{tickOf, atOf}
-use Rattle.instants.specs.Runs.{unclean-overflow, overflow-undated, clean-or, onward-goes, onward-stops, ticks-none, ticks-suc}
+use Rattle.instants.specs.Runs.{unclean-overflow, overflow-undated, clean-or, onward-goes, onward-stops, ticks-none, ticks-suc, instants-ticks}
 use Rattle.instants.specs.Kept.{source-cases, begun-clean, begun-over, chosen-low, chosen-over, tick-begun, tick-ends, tick-step}
 use Rattle.instants.specs.Filled.{Filled}
 use Rattle.instants.specs.declared.Outcome.{Outcome}
@@ -32,8 +35,8 @@ use Rattle.instants.specs.declared.Ticked.{Ticked}
 use Rattle.traces.specs.Trace.{sourceEntry}
 use Rattle.losses.specs.Losses.{loss, entryAt, noted, Listed, is-noted, Extends}
 use Rattle.losses.specs.declared.Losses.{Losses}
-use Rattle.recordings.specs.Steps.{recClean, recUndated, recFull, recOnward, lostFiring, recorded, recSourced, recBegun, recFinished, recTick, recTicks}
-use Rattle.recordings.specs.Runs.{rec-clean-or, rec-unclean-undated, rec-unclean-full, rec-onward-elim, rec-onward-goes, rec-onward-stops, rec-ticks-none, rec-ticks-suc}
+use Rattle.recordings.specs.Steps.{recClean, recUndated, recFull, recOnward, lostFiring, recorded, recSourced, recBegun, recFinished, recTick, recTicks, recInstants}
+use Rattle.recordings.specs.Runs.{rec-instants-ticks, rec-clean-or, rec-unclean-undated, rec-unclean-full, rec-onward-elim, rec-onward-goes, rec-onward-stops, rec-ticks-none, rec-ticks-suc}
 use Rattle.recordings.specs.Cases.{loss-cases, rec-begun-cases, rec-tick-begun, rec-tick-ends, rec-tick-works}
 use Rattle.recordings.specs.Kept.{Led, clean-room, begun-leads, work-leads, tick-leads, ticks-lead}
 use Rattle.recordings.specs.Trace.{marked, recTracing}
@@ -145,6 +148,30 @@ module _ (c : Chain) where
   pub beside-full : (T : ℕ) (s : Run) (l : Losses) → 256 ≤ l .count → (t q : ℕ) → ticks c T s .outcome ≡ plain.Overflowed t q → recTicks c T s l ≡ recFull (ticks c T s .run) l t q
   beside-full T s l full t q e = ticks-beside T s l (λ a b f. full) ∙ recorded-full c l (ticks c T s) full t q e
 
+-- a run by instants, from any state: also where a firing is finished at its start
+module _ (c : Chain) (T : ℕ) (s : Run) (l : Losses) where
+  instants-beside : ((t q : ℕ) → instants c T s .outcome ≡ plain.Overflowed t q → 256 ≤ l .count) → recInstants c T s l ≡ recorded c l (instants c T s)
+  unfolding recFinished
+  instants-beside full =
+      rec-instants-ticks c T s l
+      ∙ recorded-onward c l (finished c s) (ticks c T) (recTicks c T) ends (λ z. ticks-beside c T (finished c s .run) l (λ t q e. full t q (goes z ∙ e)))
+      ∙ ap (λ (x : Ticked). recorded c l x) (sym (instants-ticks c T s))
+    where
+      goes : finished c s .outcome ≡ plain.Clean → instants c T s .outcome ≡ ticks c T (finished c s .run) .outcome
+      goes z = ap (λ (x : Ticked). x .outcome) (instants-ticks c T s ∙ onward-goes (finished c s) (ticks c T) z)
+
+      ends : (t q : ℕ) → finished c s .outcome ≡ plain.Overflowed t q → 256 ≤ l .count
+      ends t q e = full t q (ap (λ (x : Ticked). x .outcome) (instants-ticks c T s ∙ onward-stops (finished c s) (ticks c T) (λ z. unclean-overflow (sym e ∙ z))) ∙ e)
+
+  pub instants-clean : instants c T s .outcome ≡ plain.Clean → recInstants c T s l ≡ recClean (instants c T s .run) l
+  instants-clean z = instants-beside (λ t q e. absurd (unclean-overflow (sym e ∙ z))) ∙ recorded-clean c l (instants c T s) z
+
+  pub instants-undated : (t i : ℕ) → instants c T s .outcome ≡ plain.NoDeadline t i → recInstants c T s l ≡ recUndated (instants c T s .run) l t i
+  instants-undated t i z = instants-beside (λ a q e. absurd (overflow-undated (sym e ∙ z))) ∙ recorded-undated c l (instants c T s) t i z
+
+  pub instants-full : 256 ≤ l .count → (t q : ℕ) → instants c T s .outcome ≡ plain.Overflowed t q → recInstants c T s l ≡ recFull (instants c T s .run) l t q
+  instants-full full t q e = instants-beside (λ a b f. full) ∙ recorded-full c l (instants c T s) full t q e
+
 -- 13 came at t and has taken back what the source's step lost: the state and the list are as they were before the tick
 pub record TakenBack (l : Losses) (t q : ℕ) (u : Run) (x : Recorded) : Type 0 where
   pub node : ℕ
@@ -164,6 +191,14 @@ next-goes {l = l} a g = record { more = omega (arith, a .more, g .more); entry =
 next-noted : {c : Chain} {l : Losses} → Listed l → l .count < 256 → (t q : ℕ) (s : Run) → NextLoss c l t q (recClean s (noted l t q (rowOf c q .produce)))
 next-noted {c} k room t q s = record { more = omega arith; entry = is-noted k room t q (rowOf c q .produce) .entry }
 
+-- a firing that was finished before and does not fit is noted, too
+pub finish-lost : (c : Chain) (s : Run) {l : Losses} → Listed l → l .count < 256 → (t q : ℕ) → finished c s .outcome ≡ plain.Overflowed t q
+    → (recFinished c s l .outcome ≡ Clean) × NextLoss c l t q (recFinished c s l)
+unfolding recFinished
+finish-lost c s {l} k room t q e =
+    let is = recorded-lost c l (finished c s) room t q e in
+    (ap (λ (x : Recorded). x .outcome) is, subst (NextLoss c l t q) (sym is) (next-noted k room t q (lostFiring c (finished c s .run) q)))
+
 module _ {c : Chain} {s : Run} (f : Filled c s) {l : Losses} (k : Listed l) (room : l .count < 256) where
   -- the source's production is dropped: 13 takes it back, or it is the next entry
   source-drops : (sourced c s .outcome ≡ plain.Clean → ⊥) → TakenBack l (s .clock) 0 s (recTick c s l) ⊎ NextLoss c l (s .clock) 0 (recTick c s l)
@@ -171,7 +206,7 @@ module _ {c : Chain} {s : Run} (f : Filled c s) {l : Losses} (k : Listed l) (roo
   source-drops n = ⊎-elim
       (λ z.
       let on = work-leads (b .filled (clean-room z)) (b .leads .listed) (chosen c u) (chosen-low c u) (chosen-over c u) in
-      inr (subst (NextLoss c l (s .clock) 0) (sym (rec-tick-works c s l z)) (next-goes (noted-after z) (on .leads .goes))))
+      inr (subst (NextLoss c l (s .clock) 0) (sym (rec-tick-works c s l z)) (next-goes (noted-after z) (on .leads .extends))))
       (λ m. inl (subst (TakenBack l (s .clock) 0 s) (sym (rec-tick-ends c s l m)) (taken m)))
       (rec-clean-or (recBegun c s l .outcome))
     where
@@ -212,7 +247,7 @@ module _ {c : Chain} {s : Run} (f : Filled c s) {l : Losses} (k : Listed l) (roo
   next-stays : (T t q : ℕ) → NextLoss c l t q (recTick c s l) → NextLoss c l t q (recTicks c (suc T) s l)
   next-stays T t q a = subst (NextLoss c l t q) (sym (rec-ticks-suc c T s l)) (rec-onward-elim (recTick c s l) (recTicks c T) (NextLoss c l t q)
       (λ n. a)
-      (λ z. let d = tick-leads f k in next-goes a (ticks-lead T (d .filled (clean-room z)) (d .leads .listed) .leads .goes)))
+      (λ z. let d = tick-leads f k in next-goes a (ticks-lead T (d .filled (clean-room z)) (d .leads .listed) .leads .extends)))
 
 -- "where that would overflow at (t, q) and the list has room, the next entry is (t, q, p of q), unless 13 comes at t and takes a source's loss back"
 pub first-loss : {c : Chain} (T : ℕ) {s : Run} → Filled c s → {l : Losses} → Listed l → l .count < 256 → (t q : ℕ) → ticks c T s .outcome ≡ plain.Overflowed t q

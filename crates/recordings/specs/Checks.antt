@@ -2,10 +2,11 @@
 --   recAccounted c s l i       what queue i holds, what was taken from it, and the sum of its entries
 --   RecBalance c s l i         the balance with them
 --   recQueuesCheck c s l       17 of the queues, and recStateCheck c s l after 17 of the list
---   RecSteady, FirstRecBroken  a queue has none of its reasons, and the lowest that has one
+--   RecBroken, RecSteady, FirstRecBroken
+--                              its reasons in words: a queue has one, or none, and the lowest that has one
 --   RecSound c s l             a state and a list that pass it
---   rec-state-exact, -silent, -only
---                              it speaks exactly under its condition, is silent exactly elsewhere, and has its own number
+--   rec-state-exact, -silent, -fine, -only
+--                              it speaks exactly under its condition, is silent exactly elsewhere, naming no place, and has its own number
 --   rec-state-sums             ticks and tokens of entries are looked at through the sums alone
 --   Recording c s l            an accepted chain, and a whole state and a list that pass it
 --   recording-filled, filled-recording
@@ -21,18 +22,20 @@ use Prim.Native.Nat.{ℕ, _+_, _≤_, _<_}
 use native.Mathlib.Nat.{add-zero}
 use native.Mathlib.Omega.{arith}
 use lib.Dec.{eqb, leb, ltb}
+use borrow.Author.Tests.{eq-eqb}
 use Rattle.words.specs.Table.{tab, tab-alike}
 use Rattle.chain.specs.Tests.{sum-iff}
-use Rattle.chain.specs.Refusals.{refused, test, first, orElse, Silent, or-says, or-silents, Only, only-or}
+use Rattle.chain.specs.Refusals.{refused, fine, test, first, orElse, Silent, first-fine, or-says, or-silents, Only, only-or}
 use Rattle.chain.specs.Record.{rowOf, workOf}
 use Rattle.chain.specs.declared.Refusal.{Refusal}
 use Rattle.chain.specs.declared.Chain.{Chain}
 use Rattle.onequeue.specs.Capacity.{capacity}
 use Rattle.onequeue.specs.Least.{least}
+use Rattle.sizing.specs.Sizes.{capacityOf}
 use Rattle.sizing.specs.Accepted.{Accepted}
 use Rattle.state.specs.State.{freshRun, heldAt, doneAt}
 use Rattle.state.specs.Fired.{supplied, accounted, BalanceWith}
-use Rattle.state.specs.Checks.{brokenUnless, queueTest, SteadyAt, FirstBrokenAt, queues-exact, queues-silent, queues-only}
+use Rattle.state.specs.Checks.{brokenUnless, queueTest, queues-exact, queues-silent, queues-only}
 use Rattle.state.specs.declared.Run.{Run}
 use Rattle.slots.specs.Runs.{Whole}
 use Rattle.instants.specs.Filled.{Filled, filled-slots, running-filled}
@@ -64,12 +67,19 @@ unfoldable pub recStateCheck : Chain → Run → Losses → Refusal
 unfolding orElse listCheck recQueuesCheck
 recStateCheck c s l = orElse (listCheck (c .n) l) (recQueuesCheck c s l)
 
--- none of 17's reasons at queue i, and the lowest queue that has one
-abbrev pub RecSteady : Chain → Run → Losses → ℕ → Type 0
-RecSteady c s l = SteadyAt c s (supplied c s) (recAccounted c s l)
+-- 17's reasons at queue i, one of which is enough
+abbrev pub RecBroken : Chain → Run → Losses → ℕ → Type 0
+RecBroken c s l i = ((RecBalance c s l i → ⊥) ⊎ (capacityOf (rowOf c i) < heldAt s i)) ⊎ (workOf c i ≤ doneAt s i)
 
-abbrev pub FirstRecBroken : Chain → Run → Losses → ℕ → Type 0
-FirstRecBroken c s l = FirstBrokenAt c s (supplied c s) (recAccounted c s l)
+-- and none of them
+abbrev pub RecSteady : Chain → Run → Losses → ℕ → Type 0
+RecSteady c s l i = (RecBalance c s l i × (heldAt s i ≤ capacityOf (rowOf c i))) × (doneAt s i < workOf c i)
+
+-- 17 of the queues in words: L is the lowest that has one
+pub record FirstRecBroken (c : Chain) (s : Run) (l : Losses) (L : ℕ) : Type 0 where
+  pub queue : L < c .n
+  pub broken : RecBroken c s l L
+  pub before : (j : ℕ) → j < L → RecSteady c s l j
 
 -- a state and a list that pass 17
 pub record RecSound (c : Chain) (s : Run) (l : Losses) : Type 0 where
@@ -84,7 +94,8 @@ module _ (c : Chain) (s : Run) (l : Losses) where
   unfolding recStateCheck recQueuesCheck
   rec-state-exact L =
       Iff·trans (or-says 17 L (λ e. omega arith) (listCheck (c .n) l) (recQueuesCheck c s l))
-      (sum-iff (list-exact (c .n) l L) (Iff·and (list-silent (c .n) l) (queues-exact c s (supplied c s) (recAccounted c s l) L)))
+      (sum-iff (list-exact (c .n) l L) (Iff·and (list-silent (c .n) l) (Iff·trans (queues-exact c s (supplied c s) (recAccounted c s l) L)
+      (λ f. record { queue = f .queue; broken = f .broken; before = f .before }, λ f. record { queue = f .queue; broken = f .broken; before = f .before }))))
 
   pub rec-state-silent : Silent (recStateCheck c s l) ↔ RecSound c s l
   unfolding recStateCheck recQueuesCheck
@@ -92,6 +103,14 @@ module _ (c : Chain) (s : Run) (l : Losses) where
       Iff·trans (or-silents (listCheck (c .n) l) (recQueuesCheck c s l))
       (Iff·trans (Iff·and (list-silent (c .n) l) (queues-silent c s (supplied c s) (recAccounted c s l)))
       (λ h. record { short = h .0 .0; named = h .0 .1; queues = h .1 }, λ r. ((r .short, r .named), r .queues)))
+
+  -- where it is silent it names no place
+  pub rec-state-fine : Silent (recStateCheck c s l) → recStateCheck c s l ≡ fine
+  unfolding recStateCheck recQueuesCheck orElse
+  rec-state-fine h =
+      let z = or-silents (listCheck (c .n) l) (recQueuesCheck c s l) .0 h in
+      let queues : orElse (listCheck (c .n) l) (recQueuesCheck c s l) ≡ recQueuesCheck c s l = simp (eq-eqb _ _ (z .0)) in
+      queues ∙ first-fine (tab (c .n) (queueTest c s (supplied c s) (recAccounted c s l))) (z .1)
 
   pub rec-state-only : Only 17 (recStateCheck c s l)
   unfolding recStateCheck recQueuesCheck

@@ -12,6 +12,9 @@
 --   steep, steepRun            a chain and a state in which the source's production does not fit and a node then lacks its deadline
 --   steep-overflows, steep-taken-back
 --                              as a deadline tick it overflows, and as a recording tick 13 ends it, taking back the source's loss
+--   steep-row                  which is said with its number, tick and node
+--   shallow-accepted, two-accepted
+--                              chains that lose are accepted
 use mathlib.Core.Path.{_≡_, refl}
 use mathlib.Core.List.{List, [], _∷_}
 use mathlib.Core.Bool.{true, false}
@@ -21,6 +24,8 @@ use Rattle.words.specs.Table.{tab}
 use Rattle.chain.specs.Refusals.{refused}
 use Rattle.chain.specs.Factory.{queue, made}
 use Rattle.chain.specs.declared.Chain.{Chain}
+use Rattle.sizing.specs.Checks.{analyseRefusal}
+use Rattle.sizing.specs.Accepted.{Accepted, analyse-accepts}
 use Rattle.state.specs.State.{freshRun, countAt, heldAt, doneAt}
 use Rattle.state.specs.declared.Run.{Run}
 use Rattle.instants.specs.Figures.{feedWorking}
@@ -129,3 +134,17 @@ steep-overflows = refl
 pub steep-taken-back : recTick steep steepRun emptyLosses ≡ recUndated steepRun emptyLosses 131072 3
 unfolding recTick
 steep-taken-back = refl
+
+-- 13, with its tick and its node; no firing is counted, and there is no entry
+pub steep-row : recRow (recTick steep steepRun emptyLosses) ≡ 13 ∷ 65536 ∷ 65535 ∷ 1 ∷ 0 ∷ 131072 ∷ 3 ∷ []
+unfolding recTick
+steep-row = refl
+
+-- chains that lose are accepted
+pub shallow-accepted : Accepted shallow
+unfolding analyseRefusal
+shallow-accepted = analyse-accepts shallow .0 refl
+
+pub two-accepted : Accepted two
+unfolding analyseRefusal
+two-accepted = analyse-accepts two .0 refl

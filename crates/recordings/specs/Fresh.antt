@@ -4,10 +4,11 @@
 --   rec-run-loses              where that would overflow at t and queue q, its first entry is that loss, unless 13 at t has taken it back
 --   rec-run-nothing-lost       so where it is clean and its list is empty it is the deadline run
 --   rec-run-full               15 leaves 256 entries, and a state in which the production does not fit
+--   rec-run-zeros              the slots past its entries are zero
 --   rec-run-passes             any other outcome leaves a state and a list that pass 17
 use mathlib.Core.Path.{_≡_, sym, ap, subst, _∙_}
 use mathlib.Core.Logic.{_⊎_}
-use Prim.Native.Nat.{ℕ}
+use Prim.Native.Nat.{ℕ, _≤_}
 use native.Mathlib.Nat.{le-antisymm}
 use native.Mathlib.Omega.{arith}
 use Rattle.chain.specs.Refusals.{Silent}
@@ -22,13 +23,13 @@ use Rattle.instants.specs.Filled.{Filled}
 use Rattle.instants.specs.declared.Outcome.{Outcome}
 use Rattle.instants.specs.declared.Outcome.the-variants as plain
 use Rattle.instants.specs.declared.Ticked.{Ticked}
-use Rattle.losses.specs.Losses.{emptyLosses, listed-empty}
+use Rattle.losses.specs.Losses.{emptyLosses, entryAt, listed-empty, empty-slots}
 use Rattle.recordings.specs.Steps.{recClean, recUndated, recTicks}
 use Rattle.recordings.specs.Runs.{rec-run-is-ticks}
 use Rattle.recordings.specs.Kept.{ticks-lead}
 use Rattle.recordings.specs.Checks.{recStateCheck, rec-state-silent, recording-filled, fresh-recording, rec-ticks-recording}
-use Rattle.recordings.specs.Traced.{recRun}
-use Rattle.recordings.specs.Beside.{beside-clean, beside-undated, TakenBack, NextLoss, first-loss, nothing-lost-clean}
+use Rattle.recordings.specs.Traced.{recRun, rec-leads}
+use Rattle.recordings.specs.Beside.{instants-clean, instants-undated, TakenBack, NextLoss, first-loss, nothing-lost-clean}
 use Rattle.recordings.specs.Exactly.{rec-ticks-full}
 use Rattle.recordings.specs.declared.RecordOutcome.the-variants.{Clean, ListFull}
 use Rattle.recordings.specs.declared.Recorded.{Recorded}
@@ -49,10 +50,10 @@ module _ {c : Chain} (a : Accepted c) (T : ℕ) where
 
   -- "as long as nothing is lost it is the deadline run's definition"
   pub rec-run-clean : instants c T (freshRun c) .outcome ≡ plain.Clean → recRun c T ≡ recClean (instants c T (freshRun c) .run) emptyLosses
-  rec-run-clean e = by-ticks ∙ beside-clean c T (freshRun c) emptyLosses (ends e) ∙ ap (λ (s : Run). recClean s emptyLosses) left
+  rec-run-clean = instants-clean c T (freshRun c) emptyLosses
 
   pub rec-run-undated : (t i : ℕ) → instants c T (freshRun c) .outcome ≡ plain.NoDeadline t i → recRun c T ≡ recUndated (instants c T (freshRun c) .run) emptyLosses t i
-  rec-run-undated t i e = by-ticks ∙ beside-undated c T (freshRun c) emptyLosses t i (ends e) ∙ ap (λ (s : Run). recUndated s emptyLosses t i) left
+  rec-run-undated = instants-undated c T (freshRun c) emptyLosses
 
   -- "where that would overflow at (t, q) .., the next entry is (t, q, p of q), unless 13 comes at t and takes a source's loss back"
   pub rec-run-loses : (t q : ℕ) → instants c T (freshRun c) .outcome ≡ plain.Overflowed t q
@@ -77,3 +78,7 @@ module _ {c : Chain} (a : Accepted c) (T : ℕ) where
   pub rec-run-passes : ((t q : ℕ) → recRun c T .outcome ≡ ListFull t q → ⊥) → Silent (recStateCheck c (recRun c T .run) (recRun c T .losses))
   rec-run-passes room = subst (λ (x : Recorded). Silent (recStateCheck c (x .run) (x .losses))) (sym by-ticks)
       (rec-state-silent c _ _ .1 (rec-ticks-recording (fresh-recording a) T (λ t q e. room t q (ap (λ (x : Recorded). x .outcome) by-ticks ∙ e)) .sound))
+
+  -- the slots past its entries are zero
+  pub rec-run-zeros : (k : ℕ) → recRun c T .losses .count ≤ k → entryAt (recRun c T .losses) k ≡ record { tick = 0; queue = 0; tokens = 0 }
+  rec-run-zeros k h = rec-leads a T .extends .behind k h ∙ empty-slots k

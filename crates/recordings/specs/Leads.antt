@@ -3,6 +3,7 @@
 --   leads-none, -fired, -dropped, -then
 --                              no firing, one that fits, one that is lost, and one history after the other
 --   leads-balance              so the balance with what the list has lost is kept
+--   leads-within               and no queue passes its capacity
 use mathlib.Core.Path.{_≡_, refl, sym, ap, subst, _∙_}
 use mathlib.Core.Logic.{by-cases}
 use mathlib.Core.Bool.{true, false, true≢false}
@@ -15,10 +16,13 @@ use lib.ListN.{replicate}
 use Rattle.chain.specs.Record.{rowOf}
 use Rattle.chain.specs.Sound.{Sound}
 use Rattle.chain.specs.declared.Chain.{Chain}
+use Rattle.sizing.specs.Sizes.{capacityOf}
+use Rattle.state.specs.State.{heldAt, doneAt, zeros}
 use Rattle.state.specs.Fired.{fired, Over, Room, Slots, BalanceWith}
 use Rattle.state.specs.Checks.{Cramped}
 use Rattle.state.specs.declared.Run.{Run}
 use Rattle.history.specs.History.{Entry}
+use Rattle.instants.specs.Filled.{Filled, filled-as}
 use Rattle.traces.specs.Trace.{resting}
 use Rattle.traces.specs.Rising.{Rising, rising-append}
 use Rattle.losses.specs.Losses.{entriesIn, noted, lostIn, lost, lost-append, Listed, listed-noted, is-noted, noted-entries, Extends, extends-refl, extends-trans, extends-noted}
@@ -26,7 +30,7 @@ use Rattle.losses.specs.Checks.{Named}
 use Rattle.losses.specs.declared.Loss.{Loss}
 use Rattle.losses.specs.declared.Losses.{Losses}
 use Rattle.recordings.specs.Steps.{dropped}
-use Rattle.recordings.specs.Marked.{Marked, unmarked, recAfter, EachFair, lossesOf, rec-after-append, fair-append, losses-append, marked-balance}
+use Rattle.recordings.specs.Marked.{Marked, unmarked, recAfter, EachFair, lossesOf, rec-after-append, fair-append, losses-append, marked-balance, marked-within}
 
 -- the firings h lead from s and l to u and m: each is fair where it is made, the counts and contents after them are u's, and m has l's entries and then what the
 -- lost ones lost, its other slots as they were; the instants never fall, from the clock of s to that of u
@@ -34,7 +38,7 @@ pub record Leads (c : Chain) (s : Run) (l : Losses) (h : List Marked) (u : Run) 
   pub fair : EachFair c (resting s) h
   pub after : recAfter c (resting s) h ≡ resting u
   pub entries : entriesIn m ≡ entriesIn l ++ lossesOf c h
-  pub goes : Extends l m
+  pub extends : Extends l m
   pub listed : Listed m
   pub named : Named (c .n) l → Named (c .n) m
   pub rising : Rising (s .clock) (unmarked h) (u .clock)
@@ -46,7 +50,7 @@ leads-none c s u {l} k a h later = record {
   fair = tt;
   after = λ i. record { clock = 0; counts = a i; held = h i; done = replicate 16 0 };
   entries = sym (append-nil (entriesIn l));
-  goes = extends-refl l;
+  extends = extends-refl l;
   listed = k;
   named = λ n. n;
   rising = later;
@@ -65,7 +69,7 @@ module _ (c : Chain) (s : Run) {l : Losses} (k : Listed l) (i : ℕ) (node : i �
     fair = (record { node = node; over = resting-over c s i over; lost = λ e. absurd (true≢false (sym e)); fits = λ e. room }, tt);
     after = refl;
     entries = sym (append-nil (entriesIn l));
-    goes = extends-refl l;
+    extends = extends-refl l;
     listed = k;
     named = λ n. n;
     rising = (le-refl (s .clock), le-refl (s .clock));
@@ -78,7 +82,7 @@ module _ (c : Chain) (s : Run) {l : Losses} (k : Listed l) (i : ℕ) (node : i �
     fair = (record { node = node; over = resting-over c s i over; lost = λ e. full; fits = λ e. absurd (true≢false e) }, tt);
     after = refl;
     entries = noted-entries k room (s .clock) i (rowOf c i .produce);
-    goes = extends-noted l (s .clock) i (rowOf c i .produce);
+    extends = extends-noted l (s .clock) i (rowOf c i .produce);
     listed = listed-noted k room (s .clock) i (rowOf c i .produce);
     named = λ n m f. by-cases (ℕ-discrete m (l .count))
         (λ e. rw (e, is-noted k room (s .clock) i (rowOf c i .produce) .entry) (full .0))
@@ -96,7 +100,7 @@ leads-then {c} {s} {u} {v} {l} g h a b = record {
       ∙ ap (λ (x : List Loss). x ++ lossesOf c h) (a .entries)
       ∙ append-assoc (entriesIn l) (lossesOf c g) (lossesOf c h)
       ∙ ap (λ (x : List Loss). entriesIn l ++ x) (sym (losses-append c g h));
-  goes = extends-trans (a .goes) (b .goes);
+  extends = extends-trans (a .extends) (b .extends);
   listed = b .listed;
   named = λ k. b .named (a .named k);
   rising = subst (λ (x : List Entry). Rising (s .clock) x (v .clock)) (sym (map-append (λ (e : Marked). e .0) g h))
@@ -113,3 +117,11 @@ leads-balance {c} {s} {u} {l} {m} {h} k slots a j f b =
   where
     sum : lost l j + lostIn j (lossesOf c h) ≡ lost m j
     sum = sym (ap (lostIn j) (a .entries) ∙ lost-append j (entriesIn l) (lossesOf c h))
+
+-- "no queue passes its capacity"
+pub leads-within : {c : Chain} {s u : Run} {l m : Losses} {h : List Marked} → Filled c s → Leads c s l h u m → (j : ℕ) → j < c .n → heldAt u j ≤ capacityOf (rowOf c j)
+leads-within {c} {s} {u} {h = h} f a j l = subst (λ (x : Run). heldAt x j ≤ capacityOf (rowOf c j)) (a .after) (marked-within rested h (a .fair) j l)
+  where
+    -- what a step needs says nothing of the clock, and work done of none is below e
+    rested : Filled c (resting s)
+    rested = filled-as c s (resting s) f (f .whole .counts) refl refl (λ i m. let z : doneAt (resting s) i ≡ 0 = zeros 16 i in omega (arith, z, f .chain .chain .work i m .0))

@@ -6,10 +6,12 @@ pub mod Marked
 pub mod Trace
 pub mod Leads
 pub mod Kept
+pub mod Growing
 pub mod Checks
 pub mod Traced
 pub mod Beside
 pub mod Once
 pub mod Exactly
+pub mod Outcomes
 pub mod Fresh
 pub mod Figures

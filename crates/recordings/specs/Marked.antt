@@ -1,6 +1,6 @@
 -- A history in which each firing is marked as lost or not (02, Item 2), with no clock, deadline or list.
 --   Marked                     an instant, a node, and whether its production is lost
---   unmarked h                 the firings of such a list, with no marks
+--   unmarked h, unmarked-more  the firings of such a list, with no marks, each as it stands
 --   recStep c s e              the state after one of them, and recAfter c s h after all of them
 --   Fair c s e                 it is a firing that s allows, lost exactly where its production does not fit
 --   EachFair c s h             each of them is, in the state that it is made in
@@ -42,6 +42,9 @@ Marked = Entry × Bool
 -- the firings with no marks
 abbrev pub unmarked : List Marked → List Entry
 unmarked h = map (λ (e : Marked). e .0) h
+
+pub unmarked-more : (e : Entry) (b : Bool) (h : List Marked) → unmarked ((e, b) ∷ h) ≡ e ∷ unmarked h
+unmarked-more e b h = refl
 
 -- "dropped whole", or a firing as ever
 abbrev pub recStep : Chain → Run → Marked → Run

@@ -3,6 +3,8 @@
 --                              the number and the values that 01's way gives an outcome; recTickOf, recAtOf o, rec-values: the values one by one
 --   recClean s l, recUndated s l t i, recFull s l t q
 --                              a state and a list that are left clean, by 13 at t of node i, or by the full list at t and queue q
+--   rec-clean-, rec-undated-, rec-full-left
+--                              which are what they say
 --   recGoes, recOnward r f     what f makes of a state and a list that were left clean; any other outcome stands
 --   dropped c s i              the state s after a finished firing of N_i whose production is dropped whole
 --   lostFiring c s i           the same of the firing that s has finished, its work cleared; of the source's, which has none
@@ -70,6 +72,16 @@ recUndated s l t i = record { outcome = NoDeadline t i; run = s; losses = l }
 
 abbrev pub recFull : Run → Losses → ℕ → ℕ → Recorded
 recFull s l t q = record { outcome = ListFull t q; run = s; losses = l }
+
+-- which are what they say: the outcome, and the state and the list that are named
+pub rec-clean-left : (s : Run) (l : Losses) → (recClean s l .outcome ≡ Clean) × ((recClean s l .run ≡ s) × (recClean s l .losses ≡ l))
+rec-clean-left s l = (refl, (refl, refl))
+
+pub rec-undated-left : (s : Run) (l : Losses) (t i : ℕ) → (recUndated s l t i .outcome ≡ NoDeadline t i) × ((recUndated s l t i .run ≡ s) × (recUndated s l t i .losses ≡ l))
+rec-undated-left s l t i = (refl, (refl, refl))
+
+pub rec-full-left : (s : Run) (l : Losses) (t q : ℕ) → (recFull s l t q .outcome ≡ ListFull t q) × ((recFull s l t q .run ≡ s) × (recFull s l t q .losses ≡ l))
+rec-full-left s l t q = (refl, (refl, refl))
 
 -- a run goes on where nothing has ended it
 unfoldable pub recGoes : RecordOutcome → Run → Losses → (Run → Losses → Recorded) → Recorded
