@@ -1,4 +1,4 @@
--- The ways in which the steps of a recording tick end (02, Item 2), in words that their definitions do not share.
+-- The ways in which the steps of a recording tick end (02, Item 2), each by what holds of the state and of the list.
 --   loss-cases                 what holds of a production that is dropped and noted, and of the full list, holds of one that does not fit
 --   source-four                the source's step loses its production, finds the list full, fires, or rests
 --   work-four                  a tick of work finishes no firing, or one that fits, or one that loses its production, or one that finds the list full
