@@ -5,7 +5,7 @@
 --   entryAt l k, entriesIn l   entry k, and the entries in order
 --   noted l t q p              the list with one entry more
 --   lostIn j h, lost l j       the tokens of the entries of h, and of the list, that name queue j
---   Listed l, listed-empty     a list of 256 slots, of which no more are entries; the empty list is one
+--   Listed l, listed-of        a list of 256 slots, of which no more are entries; listed-empty: the empty list is one
 --   empty-slots                its slots are zero
 --   Noted l t q p m            m is l with the entry (t, q, p) more, slot by slot; noted-only: no other list is that
 --   Extends l m                m's first entries are l's, and from m's last entry on its slots are l's
@@ -167,3 +167,7 @@ pub lost-noted : {l : Losses} → Listed l → l .count < 256 → (t q p j : ℕ
 unfolding lostIn
 lost-noted {l} k room t q p j =
     ap (lostIn j) (noted-entries k room t q p) ∙ lost-append j (entriesIn l) (loss t q p ∷ []) ∙ omega arith
+
+-- a list of 256 slots, of which no more are entries, is one, whatever stands in the others
+pub listed-of : (l : Losses) → length (l .entries) ≡ 256 → l .count ≤ 256 → Listed l
+listed-of l long short = record { long = long; short = short }

@@ -8,7 +8,7 @@
 --   instants-clean, -undated, -full
 --                              the same of a run by instants
 --   TakenBack, NextLoss        13 has taken back what the source's step lost; the next entry is that of a loss at t and queue q
---   finish-lost                a firing that was finished before and does not fit is noted
+--   finish-lost                a firing that was finished before and does not fit is dropped and noted
 --   first-loss                 where the deadline run would overflow at t and queue q, and the list has room, it is one of these
 --   TakenBackThen c T s l      the deadline run overflows where 13 has taken back the loss
 --   nothing-lost, nothing-lost-clean
@@ -24,7 +24,7 @@ use borrow.Author.Tests.{le-ltb}
 use Rattle.chain.specs.Record.{rowOf}
 use Rattle.chain.specs.declared.Chain.{Chain}
 use Rattle.state.specs.declared.Run.{Run}
-use Rattle.instants.specs.Steps.{clean, overflowed, undated, onward, sourced, lacking, begun, chosen, worked, finished, tick, ticks, instants}
+use Rattle.instants.specs.Steps.{clean, overflowed, withDone, undated, onward, sourced, lacking, begun, chosen, worked, finished, tick, ticks, instants}
 use Rattle.instants.specs.Steps.{tickOf, atOf}
 use Rattle.instants.specs.Runs.{unclean-overflow, overflow-undated, clean-or, onward-goes, onward-stops, ticks-none, ticks-suc, instants-ticks}
 use Rattle.instants.specs.Kept.{source-cases, begun-clean, begun-over, chosen-low, chosen-over, tick-begun, tick-ends, tick-step}
@@ -35,7 +35,7 @@ use Rattle.instants.specs.declared.Ticked.{Ticked}
 use Rattle.traces.specs.Trace.{sourceEntry}
 use Rattle.losses.specs.Losses.{loss, entryAt, noted, Listed, is-noted, Extends}
 use Rattle.losses.specs.declared.Losses.{Losses}
-use Rattle.recordings.specs.Steps.{recClean, recUndated, recFull, recOnward, lostFiring, recorded, recSourced, recBegun, recFinished, recTick, recTicks, recInstants}
+use Rattle.recordings.specs.Steps.{recClean, recUndated, recFull, recOnward, dropped, lostFiring, recorded, recSourced, recBegun, recFinished, recTick, recTicks, recInstants}
 use Rattle.recordings.specs.Runs.{rec-instants-ticks, rec-clean-or, rec-unclean-undated, rec-unclean-full, rec-onward-elim, rec-onward-goes, rec-onward-stops, rec-ticks-none, rec-ticks-suc}
 use Rattle.recordings.specs.Cases.{loss-cases, rec-begun-cases, rec-tick-begun, rec-tick-ends, rec-tick-works}
 use Rattle.recordings.specs.Kept.{Led, clean-room, begun-leads, work-leads, tick-leads, ticks-lead}
@@ -191,13 +191,11 @@ next-goes {l = l} a g = record { more = omega (arith, a .more, g .more); entry =
 next-noted : {c : Chain} {l : Losses} → Listed l → l .count < 256 → (t q : ℕ) (s : Run) → NextLoss c l t q (recClean s (noted l t q (rowOf c q .produce)))
 next-noted {c} k room t q s = record { more = omega arith; entry = is-noted k room t q (rowOf c q .produce) .entry }
 
--- a firing that was finished before and does not fit is noted, too
-pub finish-lost : (c : Chain) (s : Run) {l : Losses} → Listed l → l .count < 256 → (t q : ℕ) → finished c s .outcome ≡ plain.Overflowed t q
-    → (recFinished c s l .outcome ≡ Clean) × NextLoss c l t q (recFinished c s l)
-unfolding recFinished
-finish-lost c s {l} k room t q e =
-    let is = recorded-lost c l (finished c s) room t q e in
-    (ap (λ (x : Recorded). x .outcome) is, subst (NextLoss c l t q) (sym is) (next-noted k room t q (lostFiring c (finished c s .run) q)))
+-- a firing that was finished before and does not fit is dropped and noted, too, its work cleared
+pub finish-lost : (c : Chain) (s : Run) (l : Losses) → l .count < 256 → (t j : ℕ) → finished c s .outcome ≡ plain.Overflowed t (suc j)
+    → recFinished c s l ≡ recClean (dropped c (withDone (finished c s .run) j 0) (suc j)) (noted l t (suc j) (rowOf c (suc j) .produce))
+unfolding recFinished lostFiring
+finish-lost c s l room t j e = recorded-lost c l (finished c s) room t (suc j) e
 
 module _ {c : Chain} {s : Run} (f : Filled c s) {l : Losses} (k : Listed l) (room : l .count < 256) where
   -- the source's production is dropped: 13 takes it back, or it is the next entry

@@ -7,6 +7,7 @@
 --   RecSound c s l             a state and a list that pass it
 --   rec-state-exact, -silent, -fine, -only
 --                              it speaks exactly under its condition, is silent exactly elsewhere, naming no place, and has its own number
+--   rec-state-words, -lowest   it is silent exactly of these, in the numbers of the state, the chain and the list alone, and what it names is the lowest
 --   rec-state-sums             ticks and tokens of entries are looked at through the sums alone
 --   Recording c s l            an accepted chain, and a whole state and a list that pass it
 --   recording-filled, filled-recording
@@ -16,9 +17,10 @@
 --   rec-tick-recording, rec-ticks-recording
 --                              a tick that does not find the list full leaves one, and so do so many
 use mathlib.Core.Path.{_≡_, sym, ap, ap₂, _∙_}
-use mathlib.Core.Logic.{_↔_, _⊎_, Iff·trans, Iff·and}
+use mathlib.Core.Logic.{_↔_, _⊎_, ⊎-elim, Iff·trans, Iff·and}
 use mathlib.Core.List.{List}
-use Prim.Native.Nat.{ℕ, _+_, _≤_, _<_}
+use Prim.Native.Nat.{ℕ, suc, _+_, _*_, _≤_, _<_}
+use lib.ListN.{getD}
 use native.Mathlib.Nat.{add-zero}
 use native.Mathlib.Omega.{arith}
 use lib.Dec.{eqb, leb, ltb}
@@ -31,9 +33,9 @@ use Rattle.chain.specs.declared.Refusal.{Refusal}
 use Rattle.chain.specs.declared.Chain.{Chain}
 use Rattle.onequeue.specs.Capacity.{capacity}
 use Rattle.onequeue.specs.Least.{least}
-use Rattle.sizing.specs.Sizes.{capacityOf}
+use Rattle.sizing.specs.Sizes.{start, capacityOf}
 use Rattle.sizing.specs.Accepted.{Accepted}
-use Rattle.state.specs.State.{freshRun, heldAt, doneAt}
+use Rattle.state.specs.State.{freshRun, countAt, heldAt, doneAt}
 use Rattle.state.specs.Fired.{supplied, accounted, BalanceWith}
 use Rattle.state.specs.Checks.{brokenUnless, queueTest, queues-exact, queues-silent, queues-only}
 use Rattle.state.specs.declared.Run.{Run}
@@ -164,3 +166,16 @@ module _ {c : Chain} {s : Run} {l : Losses} (r : Recording c s l) where
   -- and so many
   pub rec-ticks-recording : (T : ℕ) → ((t q : ℕ) → recTicks c T s l .outcome ≡ ListFull t q → ⊥) → Recording c (recTicks c T s l .run) (recTicks c T s l .losses)
   rec-ticks-recording T room = let k = ticks-lead T (recording-filled r) (r .listed) in leads-recording r (k .leads) (k .filled room)
+
+-- 17 is silent exactly of these, in words of the state, the chain and the list alone
+pub rec-state-words : (c : Chain) (s : Run) (l : Losses) → Silent (recStateCheck c s l)
+    ↔ (((l .count ≤ 256) × ((k : ℕ) → k < l .count → getD (l .entries) k (record { tick = 0; queue = 0; tokens = 0 }) .queue < c .n))
+    × ((i : ℕ) → i < c .n → ((start (rowOf c i) + rowOf c i .produce * countAt s i ≡ heldAt s i + rowOf c i .consume * countAt s (suc i) + lost l i)
+    × (heldAt s i ≤ capacityOf (rowOf c i))) × (doneAt s i < workOf c i)))
+rec-state-words c s l = Iff·trans (rec-state-silent c s l) (λ r. ((r .short, r .named), r .queues), λ h. record { short = h .0 .0; named = h .0 .1; queues = h .1 })
+
+-- and no queue below the one that it names breaks any of them
+pub rec-state-lowest : (c : Chain) (s : Run) (l : Losses) (L : ℕ) → recStateCheck c s l ≡ refused 17 L → (j : ℕ) → j < L
+    → ((start (rowOf c j) + rowOf c j .produce * countAt s j ≡ heldAt s j + rowOf c j .consume * countAt s (suc j) + lost l j)
+    × (heldAt s j ≤ capacityOf (rowOf c j))) × (doneAt s j < workOf c j)
+rec-state-lowest c s l L e j h = ⊎-elim (λ a. absurd (omega (arith, a .1))) (λ a. a .1 .before j h) (rec-state-exact c s l L .0 e)

@@ -2,6 +2,7 @@
 --   dropped-output, -input, -other
 --                              its output queue is as it was, its input queue has c less, said with no minus, and every other queue is as it was
 --   dropped-whole, -slots      it keeps the number of slots
+--   dropped-keeps              and the clock and all work done
 --   fired-dropped              had the production been put in, its queue would have p more, and nothing else would be other
 --   dropped-balance            so p tokens more of its output queue are lost, and none of any other
 --   dropped-filled             and no queue passes its capacity
@@ -85,3 +86,7 @@ dropped-filled {c} {s} f i o = record { chain = f .chain; whole = dropped-whole 
           f .within j l,
         ))
         (λ ne. rw (dropped-other c s i j ne) (f .within j l))
+
+-- the clock and all work done are as they were
+pub dropped-keeps : (c : Chain) (s : Run) (i : ℕ) → (dropped c s i .clock ≡ s .clock) × (dropped c s i .done ≡ s .done)
+dropped-keeps c s i = (refl, refl)

@@ -6,6 +6,8 @@
 --   rec-trace-none, -stays     no tick has no firing, and one after an outcome has none
 --   rec-ticks-clock            T clean ticks move the clock by T
 --   rec-trace-grows            the next tick of a clean run adds firings of its own alone
+--   tick-instant, rec-trace-last
+--                              the same said of each firing, and of the traces themselves
 use mathlib.Core.Path.{_≡_, refl, sym, ap, subst, _∙_}
 use mathlib.Core.Logic.{_⊎_, inl, inr, ⊎-elim}
 use mathlib.Core.Bool.{Bool, true, false, cond}
@@ -180,3 +182,18 @@ module _ {c : Chain} where
         (subst (λ (t : ℕ). EachAt t (recTickTrace c (recTicks c T s l .run) (recTicks c T s l .losses))) (rec-ticks-clock T f k z)
         (tick-instants (ticks-lead T f k .filled (clean-room z)) (recTicks c T s l .losses)));
   }
+
+-- every firing of a tick by itself
+at-each : (t : ℕ) (g h : List Marked) (e : Marked) → EachAt t (g ++ (e ∷ h)) → ((e .0 .1 ≡ 0) × (e .0 .0 ≡ t)) ⊎ ((0 < e .0 .1) × (e .0 .0 ≡ t + 1))
+unfolding EachAt
+at-each t [] h e a = a .0
+at-each t (x ∷ g) h e a = at-each t g h e (a .1)
+
+pub tick-instant : {c : Chain} {s : Run} → Filled c s → (l : Losses) (g h : List Marked) (e : Marked) → recTickTrace c s l ≡ g ++ (e ∷ h)
+    → ((e .0 .1 ≡ 0) × (e .0 .0 ≡ s .clock)) ⊎ ((0 < e .0 .1) × (e .0 .0 ≡ s .clock + 1))
+tick-instant {c} {s} f l g h e is = at-each (s .clock) g h e (subst (EachAt (s .clock)) is (tick-instants f l))
+
+-- and the firings of T+1 ticks are those of T, and then those of the tick that follows
+pub rec-trace-last : (c : Chain) (T : ℕ) (s : Run) (l : Losses) → recTicks c T s l .outcome ≡ Clean
+    → recTrace c (suc T) s l ≡ recTrace c T s l ++ recTickTrace c (recTicks c T s l .run) (recTicks c T s l .losses)
+rec-trace-last c T s l z = trace-last c T s l ∙ ap (λ (h : List Marked). recTrace c T s l ++ h) (rec-tracing-clean _ z)

@@ -6,6 +6,8 @@
 --                              the source's step, with 13, and a tick of work, each by the firing that it makes
 --   rec-tick-firings, -none    the firings of a tick, by those of its parts
 --   tick-leads, ticks-lead     one tick, and so many, whatever their outcome
+--   trace-fair, -after, -entries, -rising
+--                              the same said of the firings themselves
 use mathlib.Core.Path.{_≡_, refl, sym, ap, ap₂, subst, _∙_}
 use mathlib.Core.Logic.{_≢_, ⊎-elim}
 use mathlib.Core.Bool.{Bool, true, false, cond, true≢false}
@@ -23,14 +25,15 @@ use Rattle.instants.specs.Steps.{divides, withDone, chosen, worked, ended}
 use Rattle.instants.specs.Filled.{Filled, fired-filled, cramped-as}
 use Rattle.instants.specs.Source.{Due, divides-is}
 use Rattle.instants.specs.Kept.{chosen-low, chosen-over, worked-counts, worked-held, worked-clock, works-filled, works-unended, works-ended, cleared-filled}
-use Rattle.traces.specs.Trace.{sourceEntry, finishEntry}
-use Rattle.losses.specs.Losses.{Listed, noted}
+use Rattle.traces.specs.Trace.{resting, sourceEntry, finishEntry}
+use Rattle.traces.specs.Rising.{Rising}
+use Rattle.losses.specs.Losses.{entriesIn, Listed, noted}
 use Rattle.losses.specs.declared.Losses.{Losses}
 use Rattle.recordings.specs.Steps.{recClean, dropped, recSourced, recBegun, recAdvanced, recFinished, recTick, recTicks}
 use Rattle.recordings.specs.Runs.{rec-unclean-undated, rec-unclean-full, rec-clean-or, rec-onward-goes, rec-onward-stops}
 use Rattle.recordings.specs.Drops.{dropped-filled}
 use Rattle.recordings.specs.Cases.{source-four, work-four, rec-begun-cases, rec-tick-ends, rec-tick-works}
-use Rattle.recordings.specs.Marked.{Marked}
+use Rattle.recordings.specs.Marked.{Marked, unmarked, recAfter, EachFair, lossesOf}
 use Rattle.recordings.specs.Trace.{marked, recTracing, recFinishTrace, recTickTrace, recTrace}
 use Rattle.recordings.specs.Leads.{Leads, leads-none, leads-fired, leads-dropped, leads-then}
 use Rattle.recordings.specs.declared.RecordOutcome.{RecordOutcome}
@@ -236,3 +239,17 @@ ticks-lead {c} (suc T) {s} f {l} k = ⊎-elim
   where
     x : Recorded
     x = recTick c s l
+
+-- the same of a run from any state, said of its firings themselves
+module _ {c : Chain} (T : ℕ) {s : Run} (f : Filled c s) {l : Losses} (k : Listed l) where
+  pub trace-fair : EachFair c (resting s) (recTrace c T s l)
+  trace-fair = ticks-lead T f k .leads .fair
+
+  pub trace-after : recAfter c (resting s) (recTrace c T s l) ≡ resting (recTicks c T s l .run)
+  trace-after = ticks-lead T f k .leads .after
+
+  pub trace-entries : entriesIn (recTicks c T s l .losses) ≡ entriesIn l ++ lossesOf c (recTrace c T s l)
+  trace-entries = ticks-lead T f k .leads .entries
+
+  pub trace-rising : Rising (s .clock) (unmarked (recTrace c T s l)) (recTicks c T s l .run .clock)
+  trace-rising = ticks-lead T f k .leads .rising

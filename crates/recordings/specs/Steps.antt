@@ -1,6 +1,6 @@
 -- One recording tick and a recording run (02, Item 2); "rec" before a name says: the same of a recording run.
 --   recNumberOf o, recValuesOf o
---                              the number and the values that 01's way gives an outcome; recTickOf, recAtOf o, rec-values: the values one by one
+--                              the number and the values that 01's way gives an outcome; recTickOf, recAtOf o, rec-values: the values one by one; rec-numbers, rec-all-values: which they are
 --   recClean s l, recUndated s l t i, recFull s l t q
 --                              a state and a list that are left clean, by 13 at t of node i, or by the full list at t and queue q
 --   rec-clean-, rec-undated-, rec-full-left
@@ -152,3 +152,10 @@ unfoldable pub recInstants : Chain → ℕ → Run → Losses → Recorded
 unfolding recAdvanced recOnward recFinished
 recInstants c zero s l = recFinished c s l
 recInstants c (suc T) s l = recOnward (recOnward (recFinished c s l) (recAdvanced c)) (recInstants c T)
+
+-- the numbers and values, with no other word
+pub rec-numbers : (t p : ℕ) → (recNumberOf Clean ≡ 0) × ((recNumberOf (NoDeadline t p) ≡ 13) × (recNumberOf (ListFull t p) ≡ 15))
+rec-numbers t p = (refl, (refl, refl))
+
+pub rec-all-values : (t p : ℕ) → (recValuesOf Clean ≡ []) × ((recValuesOf (NoDeadline t p) ≡ t ∷ p ∷ []) × (recValuesOf (ListFull t p) ≡ t ∷ p ∷ []))
+rec-all-values t p = (refl, (refl, refl))

@@ -1,5 +1,5 @@
 -- A recording run from a fresh start with an empty list, by the history of its firings (02, Item 2).
---   recRun c T, recFirings c T what it leaves after T ticks, and its firings
+--   recRun c T, recFirings c T what it leaves after T ticks, and its firings; rec-run-means: which these are
 --   rec-leads                  they lead from a fresh start to what it leaves
 --   rec-fair, rec-after        a production is lost exactly where it does not fit, and counts and contents after the firings are the run's
 --   rec-counted                each node has fired as often as it stands in the trace, lost or not
@@ -96,3 +96,7 @@ module _ {c : Chain} (a : Accepted c) (T : ℕ) where
   -- "no queue passes its capacity", at any moment: after whatever its firings begin with
   pub rec-within : (g h : List Marked) → recFirings c T ≡ g ++ h → (j : ℕ) → j < c .n → heldAt (recAfter c (freshRun c) g) j ≤ capacityOf (rowOf c j)
   rec-within g h e j l = marked-within (recording-filled fresh) g (fair-before c (freshRun c) g h (subst (EachFair c (freshRun c)) e rec-fair)) j l
+
+-- which run, and whose firings
+pub rec-run-means : (c : Chain) (T : ℕ) → (recRun c T ≡ recInstants c T (freshRun c) emptyLosses) × (recFirings c T ≡ recTrace c T (freshRun c) emptyLosses)
+rec-run-means c T = (refl, refl)

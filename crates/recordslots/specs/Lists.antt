@@ -1,6 +1,6 @@
 -- Lists of losses of which only the entries are compared, and what a recording tick leaves, of which only those and the first slots are (01, Firing: "the
 -- slots past n are neither read nor changed"; 02, Item 2).
---   AlikeLosses l m          two lists of as many slots that differ in slots past the count only
+--   AlikeLosses l m          two lists of as many slots that differ in slots past the count only; alike-of: such lists are that
 --   losses-refl              a list and itself
 --   alike-noted              one entry more in both
 --   same-losses              lists that differ in slots past the count only and went on from one list are equal
@@ -120,3 +120,7 @@ rec-kept-onward {n} {s} {l} x f k h = rec-onward-elim x f (KeptRecorded n s l) (
 -- what keeps the slots of a state and of a list that have kept those of others
 pub rec-kept-then : {n : ℕ} {s u : Run} {l m : Losses} {x : Recorded} → KeptSlots n s u → Extends l m → KeptRecorded n u m x → KeptRecorded n s l x
 rec-kept-then k g h = record { state = kept-trans k (h .state); losses = extends-trans g (h .losses) }
+
+-- lists of as many slots with the same entries are alike, whatever stands in the other slots
+pub alike-of : (l m : Losses) → l .count ≡ m .count → length (l .entries) ≡ length (m .entries) → ((k : ℕ) → k < l .count → entryAt l k ≡ entryAt m k) → AlikeLosses l m
+alike-of l m count long entries = record { count = count; long = long; entries = entries }
