@@ -66,6 +66,10 @@ pub record Listed (l : Losses) : Type 0 where
   pub long : length (l .entries) ≡ 256
   pub short : l .count ≤ 256
 
+-- a list of 256 slots, of which no more are entries, is one, whatever stands in the others
+pub listed-of : (l : Losses) → length (l .entries) ≡ 256 → l .count ≤ 256 → Listed l
+listed-of l long short = record { long = long; short = short }
+
 pub listed-empty : Listed emptyLosses
 listed-empty = record { long = length-replicate {A = Loss} 256 noLoss; short = omega arith }
 
@@ -167,7 +171,3 @@ pub lost-noted : {l : Losses} → Listed l → l .count < 256 → (t q p j : ℕ
 unfolding lostIn
 lost-noted {l} k room t q p j =
     ap (lostIn j) (noted-entries k room t q p) ∙ lost-append j (entriesIn l) (loss t q p ∷ []) ∙ omega arith
-
--- a list of 256 slots, of which no more are entries, is one, whatever stands in the others
-pub listed-of : (l : Losses) → length (l .entries) ≡ 256 → l .count ≤ 256 → Listed l
-listed-of l long short = record { long = long; short = short }

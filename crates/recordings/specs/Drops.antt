@@ -53,6 +53,10 @@ module _ (c : Chain) (s : Run) where
   pub dropped-slots : {n : ℕ} (i : ℕ) → Slots n s → Slots n (dropped c s i)
   dropped-slots i k = record { counts = omega (arith, k .counts, counts-length c s i); held = omega (arith, k .held, holds-kept i) }
 
+-- the clock and all work done are as they were
+pub dropped-keeps : (c : Chain) (s : Run) (i : ℕ) → (dropped c s i .clock ≡ s .clock) × (dropped c s i .done ≡ s .done)
+dropped-keeps c s i = (refl, refl)
+
 -- a firing of N_i, which has an output queue and finds what it takes
 module _ (c : Chain) (s : Run) (i : ℕ) (has : i < c .n) (k : Slots (c .n) s) (enough : (j : ℕ) → j < c .n → i ≡ suc j → rowOf c j .consume ≤ heldAt s j) where
   -- "dropped whole: nothing is put into the queue", and "all else of the firing happens as ever"
@@ -86,7 +90,3 @@ dropped-filled {c} {s} f i o = record { chain = f .chain; whole = dropped-whole 
           f .within j l,
         ))
         (λ ne. rw (dropped-other c s i j ne) (f .within j l))
-
--- the clock and all work done are as they were
-pub dropped-keeps : (c : Chain) (s : Run) (i : ℕ) → (dropped c s i .clock ≡ s .clock) × (dropped c s i .done ≡ s .done)
-dropped-keeps c s i = (refl, refl)

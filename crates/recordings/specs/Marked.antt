@@ -76,6 +76,38 @@ unfoldable pub lossesOf : Chain → List Marked → List Loss
 lossesOf c [] = []
 lossesOf c (e ∷ h) = cond (e .1) (loss (e .0 .0) (e .0 .1) (rowOf c (e .0 .1) .produce) ∷ lossesOf c h) (lossesOf c h)
 
+-- no firing changes nothing and loses nothing; a lost one drops its production and loses p; one that fits fires as ever and loses nothing
+pub rec-after-none : (c : Chain) (s : Run) → recAfter c s [] ≡ s
+unfolding recAfter
+rec-after-none c s = refl
+
+pub rec-after-lost : (c : Chain) (s : Run) (t i : ℕ) (h : List Marked) → recAfter c s (((t, i), true) ∷ h) ≡ recAfter c (dropped c s i) h
+unfolding recAfter
+rec-after-lost c s t i h = refl
+
+pub rec-after-fits : (c : Chain) (s : Run) (t i : ℕ) (h : List Marked) → recAfter c s (((t, i), false) ∷ h) ≡ recAfter c (fired c s i) h
+unfolding recAfter
+rec-after-fits c s t i h = refl
+
+pub losses-none : (c : Chain) → lossesOf c [] ≡ []
+unfolding lossesOf
+losses-none c = refl
+
+pub losses-lost : (c : Chain) (t i : ℕ) (h : List Marked) → lossesOf c (((t, i), true) ∷ h) ≡ record { tick = t; queue = i; tokens = rowOf c i .produce } ∷ lossesOf c h
+unfolding lossesOf
+losses-lost c t i h = refl
+
+pub losses-fits : (c : Chain) (t i : ℕ) (h : List Marked) → lossesOf c (((t, i), false) ∷ h) ≡ lossesOf c h
+unfolding lossesOf
+losses-fits c t i h = refl
+
+-- what a fair history says of each of its firings, in the state that it is made in
+pub fair-each : (c : Chain) (s : Run) (g h : List Marked) (t i : ℕ) (b : Bool) → EachFair c s (g ++ (((t, i), b) ∷ h))
+    → ((i ≤ c .n) × Over c (recAfter c s g) i) × ((b ≡ true → Cramped c (recAfter c s g) i) × (b ≡ false → Room c (recAfter c s g) i))
+unfolding EachFair recAfter
+fair-each c s [] h t i b a = ((a .0 .node, a .0 .over), (a .0 .lost, a .0 .fits))
+fair-each c s (e ∷ g) h t i b a = fair-each c (recStep c s e) g h t i b (a .1)
+
 module _ (c : Chain) where
   pub rec-after-append : (s : Run) (g h : List Marked) → recAfter c s (g ++ h) ≡ recAfter c (recAfter c s g) h
   unfolding recAfter
@@ -170,35 +202,3 @@ marked-within {c} {s} f (e ∷ h) fair j l = marked-within (step (e .1) (fair .0
     step : (b : Bool) → (b ≡ false → Room c s (e .0 .1)) → Filled c (cond b (dropped c s (e .0 .1)) (fired c s (e .0 .1)))
     step true fits = dropped-filled f (e .0 .1) (fair .0 .over)
     step false fits = fired-filled f (e .0 .1) (fair .0 .over) (fits refl)
-
--- no firing changes nothing and loses nothing; a lost one drops its production and loses p; one that fits fires as ever and loses nothing
-pub rec-after-none : (c : Chain) (s : Run) → recAfter c s [] ≡ s
-unfolding recAfter
-rec-after-none c s = refl
-
-pub rec-after-lost : (c : Chain) (s : Run) (t i : ℕ) (h : List Marked) → recAfter c s (((t, i), true) ∷ h) ≡ recAfter c (dropped c s i) h
-unfolding recAfter
-rec-after-lost c s t i h = refl
-
-pub rec-after-fits : (c : Chain) (s : Run) (t i : ℕ) (h : List Marked) → recAfter c s (((t, i), false) ∷ h) ≡ recAfter c (fired c s i) h
-unfolding recAfter
-rec-after-fits c s t i h = refl
-
-pub losses-none : (c : Chain) → lossesOf c [] ≡ []
-unfolding lossesOf
-losses-none c = refl
-
-pub losses-lost : (c : Chain) (t i : ℕ) (h : List Marked) → lossesOf c (((t, i), true) ∷ h) ≡ record { tick = t; queue = i; tokens = rowOf c i .produce } ∷ lossesOf c h
-unfolding lossesOf
-losses-lost c t i h = refl
-
-pub losses-fits : (c : Chain) (t i : ℕ) (h : List Marked) → lossesOf c (((t, i), false) ∷ h) ≡ lossesOf c h
-unfolding lossesOf
-losses-fits c t i h = refl
-
--- what a fair history says of each of its firings, in the state that it is made in
-pub fair-each : (c : Chain) (s : Run) (g h : List Marked) (t i : ℕ) (b : Bool) → EachFair c s (g ++ (((t, i), b) ∷ h))
-    → ((i ≤ c .n) × Over c (recAfter c s g) i) × ((b ≡ true → Cramped c (recAfter c s g) i) × (b ≡ false → Room c (recAfter c s g) i))
-unfolding EachFair recAfter
-fair-each c s [] h t i b a = ((a .0 .node, a .0 .over), (a .0 .lost, a .0 .fits))
-fair-each c s (e ∷ g) h t i b a = fair-each c (recStep c s e) g h t i b (a .1)

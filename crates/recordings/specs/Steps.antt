@@ -63,6 +63,13 @@ rec-values Clean = refl
 rec-values (NoDeadline t i) = refl
 rec-values (ListFull t q) = refl
 
+-- the numbers and values, with no other word
+pub rec-numbers : (t p : ℕ) → (recNumberOf Clean ≡ 0) × ((recNumberOf (NoDeadline t p) ≡ 13) × (recNumberOf (ListFull t p) ≡ 15))
+rec-numbers t p = (refl, (refl, refl))
+
+pub rec-all-values : (t p : ℕ) → (recValuesOf Clean ≡ []) × ((recValuesOf (NoDeadline t p) ≡ t ∷ p ∷ []) × (recValuesOf (ListFull t p) ≡ t ∷ p ∷ []))
+rec-all-values t p = (refl, (refl, refl))
+
 -- the three ways in which a state and a list are left
 abbrev pub recClean : Run → Losses → Recorded
 recClean s l = record { outcome = Clean; run = s; losses = l }
@@ -152,10 +159,3 @@ unfoldable pub recInstants : Chain → ℕ → Run → Losses → Recorded
 unfolding recAdvanced recOnward recFinished
 recInstants c zero s l = recFinished c s l
 recInstants c (suc T) s l = recOnward (recOnward (recFinished c s l) (recAdvanced c)) (recInstants c T)
-
--- the numbers and values, with no other word
-pub rec-numbers : (t p : ℕ) → (recNumberOf Clean ≡ 0) × ((recNumberOf (NoDeadline t p) ≡ 13) × (recNumberOf (ListFull t p) ≡ 15))
-rec-numbers t p = (refl, (refl, refl))
-
-pub rec-all-values : (t p : ℕ) → (recValuesOf Clean ≡ []) × ((recValuesOf (NoDeadline t p) ≡ t ∷ p ∷ []) × (recValuesOf (ListFull t p) ≡ t ∷ p ∷ []))
-rec-all-values t p = (refl, (refl, refl))

@@ -47,6 +47,10 @@ recRun c T = recInstants c T (freshRun c) emptyLosses
 abbrev pub recFirings : Chain → ℕ → List Marked
 recFirings c T = recTrace c T (freshRun c) emptyLosses
 
+-- which run, and whose firings
+pub rec-run-means : (c : Chain) (T : ℕ) → (recRun c T ≡ recInstants c T (freshRun c) emptyLosses) × (recFirings c T ≡ recTrace c T (freshRun c) emptyLosses)
+rec-run-means c T = (refl, refl)
+
 module _ {c : Chain} (a : Accepted c) (T : ℕ) where
   fresh : Recording c (freshRun c) emptyLosses
   fresh = fresh-recording a
@@ -96,7 +100,3 @@ module _ {c : Chain} (a : Accepted c) (T : ℕ) where
   -- "no queue passes its capacity", at any moment: after whatever its firings begin with
   pub rec-within : (g h : List Marked) → recFirings c T ≡ g ++ h → (j : ℕ) → j < c .n → heldAt (recAfter c (freshRun c) g) j ≤ capacityOf (rowOf c j)
   rec-within g h e j l = marked-within (recording-filled fresh) g (fair-before c (freshRun c) g h (subst (EachFair c (freshRun c)) e rec-fair)) j l
-
--- which run, and whose firings
-pub rec-run-means : (c : Chain) (T : ℕ) → (recRun c T ≡ recInstants c T (freshRun c) emptyLosses) × (recFirings c T ≡ recTrace c T (freshRun c) emptyLosses)
-rec-run-means c T = (refl, refl)

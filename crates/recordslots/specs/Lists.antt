@@ -38,6 +38,10 @@ pub record AlikeLosses (l m : Losses) : Type 0 where
   pub long : length (l .entries) ≡ length (m .entries)
   pub entries : (k : ℕ) → k < l .count → entryAt l k ≡ entryAt m k
 
+-- lists of as many slots with the same entries are alike, whatever stands in the other slots
+pub alike-of : (l m : Losses) → l .count ≡ m .count → length (l .entries) ≡ length (m .entries) → ((k : ℕ) → k < l .count → entryAt l k ≡ entryAt m k) → AlikeLosses l m
+alike-of l m count long entries = record { count = count; long = long; entries = entries }
+
 -- a list and itself
 pub losses-refl : (l : Losses) → AlikeLosses l l
 losses-refl l = record { count = refl; long = refl; entries = λ k h. refl }
@@ -120,7 +124,3 @@ rec-kept-onward {n} {s} {l} x f k h = rec-onward-elim x f (KeptRecorded n s l) (
 -- what keeps the slots of a state and of a list that have kept those of others
 pub rec-kept-then : {n : ℕ} {s u : Run} {l m : Losses} {x : Recorded} → KeptSlots n s u → Extends l m → KeptRecorded n u m x → KeptRecorded n s l x
 rec-kept-then k g h = record { state = kept-trans k (h .state); losses = extends-trans g (h .losses) }
-
--- lists of as many slots with the same entries are alike, whatever stands in the other slots
-pub alike-of : (l m : Losses) → l .count ≡ m .count → length (l .entries) ≡ length (m .entries) → ((k : ℕ) → k < l .count → entryAt l k ≡ entryAt m k) → AlikeLosses l m
-alike-of l m count long entries = record { count = count; long = long; entries = entries }
