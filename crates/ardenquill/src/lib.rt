@@ -1,5 +1,7 @@
 // Ardenquill as its users see it: every public call, for Rattle under its own name and for C as in include/ardenquill.h.
 // No call has a `requires`: each takes any bytes, record or number and answers.
+#![tactic(auto)]
+
 ghost use Rattle.std.specs.Prelude.{◌≡◌, length};
 ghost use Rattle.ardenquill.specs.Files.{read_answer, packed, write_refusal, Output};
 ghost use Rattle.ardenquill.specs.Chains.{factory_answer};
@@ -30,7 +32,7 @@ pub use ticks::{deadline_run, tick};
 
 // The answer of a tick for C: the refusal, and how it ended as a code with the tick and the queue or node.
 #[repr(C)]
-#[derive(Drop)]
+#[derive(Clone, Copy)]
 pub struct OutcomeAnswer {
     pub number: u32,
     pub place: u32,
@@ -41,7 +43,7 @@ pub struct OutcomeAnswer {
 
 // The answer of a deadline run for C: the same, and the state that it left.
 #[repr(C)]
-#[derive(Drop)]
+#[derive(Clone, Copy)]
 pub struct OutcomeRun {
     pub number: u32,
     pub place: u32,
@@ -53,7 +55,7 @@ pub struct OutcomeRun {
 
 // The answer of a recording run for C: the same, and the list of what was lost.
 #[repr(C)]
-#[derive(Drop)]
+#[derive(Clone, Copy)]
 pub struct OutcomeRecording {
     pub number: u32,
     pub place: u32,

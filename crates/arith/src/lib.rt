@@ -1,5 +1,7 @@
 // The greatest common divisor, and division where the divisor is often 1; the laws of division, remainders, gcd and widths
 // that other crates cite are in specs/.
+#![tactic(auto)]
+
 ghost use Rattle.std.specs.Prelude.{◌≡◌, ◌/◌, min};
 ghost use Rattle.arith.specs.Gcd.{gcd};
 ghost use Rattle.arith.specs.Division.{Divisor};

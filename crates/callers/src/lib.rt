@@ -1,6 +1,8 @@
 // For each call that C has a function that makes it (`names` has those that Rattle has): every argument is handed on as it is, and
 // the proof knows of the call its contract alone. So a call whose code and contract both fix an argument, or whose contract
 // names another definition, is refused here.
+#![tactic(auto)]
+
 pub mod names;
 
 ghost use Rattle.std.specs.Prelude.{◌≡◌, length};

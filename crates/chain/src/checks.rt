@@ -18,7 +18,7 @@ pub const FINE: Refusal = Refusal {
 };
 
 // What is refused of the rows looked at so far: the first fault of a queue row's fields, of a node row, and of the order.
-#[derive(Drop)]
+#[derive(Clone, Copy)]
 pub struct Faults {
     pub rows: Refusal,
     pub nodes: Refusal,

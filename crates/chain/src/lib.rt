@@ -1,4 +1,6 @@
 // The chain record: the refusal, the checks 2, 4 and 5 of a chain's own numbers, and the factory chains.
+#![tactic(auto)]
+
 ghost use Rattle.std.specs.Prelude.{◌≡◌};
 ghost use Rattle.chain.specs.Record.{answered};
 
@@ -13,7 +15,7 @@ pub use words::Queue;
 
 // A refusal number of 01 with its place; number 0 and place 0 where nothing is refused.
 #[repr(C)]
-#[derive(Drop)]
+#[derive(Clone, Copy)]
 pub struct Refusal {
     pub number: u32,
     pub place: u32,
@@ -21,7 +23,7 @@ pub struct Refusal {
 
 // One chain: n queues, the source's period, and for each queue its row and the execution time of the node it feeds.
 #[repr(C)]
-#[derive(Drop)]
+#[derive(Clone, Copy)]
 pub struct Chain {
     pub n: u32,
     pub period: u32,
@@ -31,7 +33,7 @@ pub struct Chain {
 
 // A chain, or the refusal that stands in its place.
 #[repr(C)]
-#[derive(Drop)]
+#[derive(Clone, Copy)]
 pub struct ChainAnswer {
     pub number: u32,
     pub place: u32,

@@ -1,4 +1,6 @@
 // The chain file: a reader that takes any bytes of any length, and a writer of the packed file.
+#![tactic(auto)]
+
 ghost use Rattle.std.specs.Prelude.{◌≡◌};
 ghost use Rattle.chainfile.specs.Packed.{not_written, written};
 
@@ -10,7 +12,7 @@ pub use writer::write;
 
 // How many bytes were written, or the refusal.
 #[repr(C)]
-#[derive(Drop)]
+#[derive(Clone, Copy)]
 pub struct LengthAnswer {
     pub number: u32,
     pub place: u32,

@@ -11,7 +11,7 @@ use chain::{Chain, ChainAnswer, Refusal};
 use words::Queue;
 
 // The header's five words, in the order of the file.
-#[derive(Drop)]
+#[derive(Clone, Copy)]
 struct Header {
     n: u32,
     period: u32,

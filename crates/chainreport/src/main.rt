@@ -1,6 +1,8 @@
 // The report program: reads a chain file from standard input and prints its report, or the line of its refusal.
 // No contract can say what the system reads or writes. So `read` and `print` are one call each, and ask of `main` that
 // the bytes lent to them are the right ones.
+#![tactic(auto)]
+
 ghost use Rattle.std.specs.Prelude.{◌≤◌, ◌<◌, length, take};
 ghost use Rattle.io.specs.Counts.{IsPrefixLen};
 ghost use Rattle.ardenquill.specs.Reports.{longest_report};

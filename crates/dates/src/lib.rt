@@ -1,5 +1,7 @@
 // Deadline questions: when a firing of a node is due. The index is followed down to the source, a queue at a time, by
 // functions that call themselves for the node before.
+#![tactic(auto)]
+
 ghost use Rattle.std.specs.Prelude.{◌≡◌, ◌+◌, ◌-◌, ◌*◌, ◌/◌, ◌≤◌};
 ghost use Rattle.dates.specs.Question.{refused_with, deadline_answer};
 ghost use Rattle.dates.specs.Dues.{Step, Dues, DueGives, PassingGives, Dated, DatedGives};
@@ -16,7 +18,7 @@ const LIMIT: u64 = 4294967295;
 
 // The deadline of a firing in ticks, with the refusal that the call ended with, if any.
 #[repr(C)]
-#[derive(Drop)]
+#[derive(Clone, Copy)]
 pub struct DeadlineAnswer {
     pub number: u32,
     pub place: u32,

@@ -1,1 +1,2 @@
 // Deadlines and their laws. This crate has no code.
+#![tactic(auto)]

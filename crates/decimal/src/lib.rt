@@ -1,5 +1,7 @@
 // Numbers as decimal text, written into the caller's bytes where there is room. Each writer answers the place behind what
 // it wrote, so that the next one goes on from there; what the text is, is in specs/.
+#![tactic(auto)]
+
 ghost use Rattle.std.specs.Prelude.{◌≡◌, ◌∷◌, [], ◌+◌, ◌≤◌, length, nat_abs};
 ghost use Rattle.words.specs.Put.{Room, Puts};
 ghost use Rattle.decimal.specs.Digits.{last_digit, decimal, column};

@@ -1,5 +1,7 @@
 // The flow: a chain's rows and a run's counts and contents in one array of words, which code that fires nodes one by one
 // lends from call to call. Records of this size, handed by value, would be copied at each firing.
+#![tactic(auto)]
+
 ghost use Rattle.std.specs.Prelude.{◌≡◌, length};
 ghost use Rattle.chain.specs.Sound.{Sound};
 ghost use Rattle.state.specs.State.{fresh_run};

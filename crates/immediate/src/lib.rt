@@ -1,5 +1,7 @@
 // The immediate run: every node fires as soon as it can, the one nearest the sink first. Fire and settle call each other
 // over one lent flow; the number of queues left towards the sink falls.
+#![tactic(auto)]
+
 ghost use Rattle.std.specs.Prelude.{◌≡◌, ◌+◌, ◌*◌};
 ghost use Rattle.chain.specs.Sound.{Sound};
 ghost use Rattle.sizing.specs.Sizes.{start};

@@ -1,9 +1,11 @@
 // What one tick and a deadline run end with. This crate has no functions: its specs say what a tick and a run mean.
+#![tactic(auto)]
+
 use state::Run;
 
 // How a tick or a run ended: clean; or a production that did not fit its queue at a tick; or a node over threshold
 // whose deadline cannot be had at a tick.
-#[derive(Drop)]
+#[derive(Clone, Copy)]
 pub enum Outcome {
     Clean,
     Overflowed { tick: u32, queue: u32 },
@@ -11,14 +13,14 @@ pub enum Outcome {
 }
 
 // An outcome, with the state that it leaves.
-#[derive(Drop)]
+#[derive(Clone, Copy)]
 pub struct Ticked {
     pub outcome: Outcome,
     pub run: Run,
 }
 
 // An outcome with the state that it leaves, beside the refusal that the call ended with, if any.
-#[derive(Drop)]
+#[derive(Clone, Copy)]
 pub struct TickAnswer {
     pub number: u32,
     pub place: u32,

@@ -1,11 +1,13 @@
 // The list of losses of a recording run: which productions were dropped, when, and how many tokens they had. One pass over
 // the list says whether it is refused, and how many tokens each queue lost.
+#![tactic(auto)]
+
 ghost use Rattle.chain.specs.Faults.{Few};
 ghost use Rattle.losses.specs.Tally.{TallyGives};
 
 // One production that was dropped whole.
 #[repr(C)]
-#[derive(Drop)]
+#[derive(Clone, Copy)]
 pub struct Loss {
     pub tick: u32,
     pub queue: u32,
@@ -14,14 +16,14 @@ pub struct Loss {
 
 // The losses so far, in order; the slots from count on are no entries.
 #[repr(C)]
-#[derive(Drop)]
+#[derive(Clone, Copy)]
 pub struct Losses {
     pub count: u32,
     pub entries: [Loss; 256],
 }
 
 // 17 of a list, and where it is silent the tokens that each queue lost.
-#[derive(Drop)]
+#[derive(Clone, Copy)]
 pub struct Tally {
     pub number: u32,
     pub place: u32,

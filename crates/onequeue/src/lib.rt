@@ -1,12 +1,14 @@
 // What one queue needs: the minimum with the naming count of its numbers, the capacity in force and the margin.
 // The divisions that the rates make too, gcd and share, come with the numbers, so that each is done once.
+#![tactic(auto)]
+
 ghost use Rattle.std.specs.Prelude.{◌≡◌};
 ghost use Rattle.onequeue.specs.Least.{least};
 ghost use Rattle.onequeue.specs.Known.{Known};
 ghost use Rattle.onequeue.specs.Capacity.{capacity, margin, Within};
 
 // A queue's produce, threshold and consume, with the gcd of produce and consume and its quotient in consume.
-#[derive(Drop)]
+#[derive(Clone, Copy)]
 pub struct Row {
     pub produce: u32,
     pub threshold: u32,
@@ -16,7 +18,7 @@ pub struct Row {
 }
 
 // A queue's minimum, and its naming count: when its producer has fired so often, the queue has held at least the minimum.
-#[derive(Drop)]
+#[derive(Clone, Copy)]
 pub struct Shown {
     pub minimum: u32,
     pub by: u32,

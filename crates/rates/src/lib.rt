@@ -1,5 +1,7 @@
 // The rate of a node from that of the node before it, and the load so far. A queue comes with its gcd and its share, which
 // its minimum and its naming count need too; so the gcd with x is that of the share alone, and every division has 32 bits.
+#![tactic(auto)]
+
 ghost use Rattle.std.specs.Prelude.{◌≡◌, ◌+◌, ◌*◌};
 ghost use Rattle.rates.specs.Rates.{rate_after, Step};
 ghost use Rattle.rates.specs.Load.{capped, Small};
@@ -7,7 +9,7 @@ ghost use Rattle.rates.specs.Load.{capped, Small};
 use onequeue::Row;
 
 // The rate of a node, x firings in y ticks, before it is known to fit 32 bits; y is `stretch` times that of the node before.
-#[derive(Drop)]
+#[derive(Clone, Copy)]
 pub struct Rate {
     pub x: u64,
     pub y: u64,

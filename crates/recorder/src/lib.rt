@@ -1,5 +1,7 @@
 // The recording tick of a state and a list, by value, and the recording run from a fresh start. Both are deadline ticks that
 // are joined by losses: where a production does not fit, its loss is noted, the rest of its tick is made, and the ticks go on.
+#![tactic(auto)]
+
 ghost use Rattle.std.specs.Prelude.{◌≡◌, ◌≤◌};
 ghost use Rattle.state.specs.Checks.{Planned};
 ghost use Rattle.recordings.specs.Answers.{rec_tick_answer, rec_run_answer};

@@ -1,10 +1,12 @@
 // What a recording tick and a recording run end with. This crate has no functions: its specs say what they mean.
+#![tactic(auto)]
+
 use losses::Losses;
 use state::Run;
 
 // How a recording tick or run ended: clean; or a node over threshold whose deadline cannot be had at a tick; or, the list
 // being full, a production that did not fit its queue at a tick.
-#[derive(Drop)]
+#[derive(Clone, Copy)]
 pub enum RecordOutcome {
     Clean,
     NoDeadline { tick: u32, node: u32 },
@@ -12,7 +14,7 @@ pub enum RecordOutcome {
 }
 
 // An outcome, with the state and the list that it leaves.
-#[derive(Drop)]
+#[derive(Clone, Copy)]
 pub struct Recorded {
     pub outcome: RecordOutcome,
     pub run: Run,
@@ -20,7 +22,7 @@ pub struct Recorded {
 }
 
 // An outcome with the state and the list that it leaves, beside the refusal that the call ended with, if any.
-#[derive(Drop)]
+#[derive(Clone, Copy)]
 pub struct RecordAnswer {
     pub number: u32,
     pub place: u32,

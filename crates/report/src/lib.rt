@@ -1,4 +1,6 @@
 // The report: the text of a chain file's analysis, and the line of a refusal, written into the caller's own bytes.
+#![tactic(auto)]
+
 ghost use Rattle.std.specs.Prelude.{length};
 ghost use Rattle.chain.specs.Faults.{Few};
 ghost use Rattle.chainfile.specs.Packed.{room_check, Output};

@@ -1,5 +1,7 @@
 // The report's text: its lines, written one behind the other where there is room for the longest report; the line of a
 // refusal; and the comparison with the first line.
+#![tactic(auto)]
+
 ghost use Rattle.std.specs.Prelude.{◌≡◌, ◌+◌, ◌*◌, ◌≤◌};
 ghost use Rattle.words.specs.Put.{Room, Puts};
 ghost use Rattle.reporttext.specs.Text.{columns, column_count, numbers, line, lines, text_of};

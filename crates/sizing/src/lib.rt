@@ -2,6 +2,8 @@
 // margin. One walk over the queues makes it all. Calls that need no more of it than the capacities walk into a lent plan:
 // every tick, deadline run and deadline question starts with `planned_for_run`, and calls that 8 does not refuse start with
 // `planned`.
+#![tactic(auto)]
+
 ghost use Rattle.std.specs.Prelude.{◌≡◌};
 ghost use Rattle.chain.specs.Refusals.{first};
 ghost use Rattle.chain.specs.Sound.{Sound, SoundRow};
@@ -16,7 +18,7 @@ use rates::Rate;
 
 // A queue as the analysis has it: its consumer fires x times in y ticks; `by` is the naming count.
 #[repr(C)]
-#[derive(Drop)]
+#[derive(Clone, Copy)]
 pub struct QueueSize {
     pub x: u32,
     pub y: u32,
@@ -28,7 +30,7 @@ pub struct QueueSize {
 
 // The analysis of a chain of n queues; the slots past n are zero.
 #[repr(C)]
-#[derive(Drop)]
+#[derive(Clone, Copy)]
 pub struct Analysis {
     pub n: u32,
     pub queues: [QueueSize; 16],
@@ -38,7 +40,7 @@ pub struct Analysis {
 
 // An analysis, or the refusal that stands in its place.
 #[repr(C)]
-#[derive(Drop)]
+#[derive(Clone, Copy)]
 pub struct AnalysisAnswer {
     pub number: u32,
     pub place: u32,
@@ -57,14 +59,14 @@ pub const WORK: usize = 16;
 pub const PERIOD: usize = 32;
 
 // What is refused of a chain's sizes: by 6 and 7, and by 8, which runs and deadlines alone ask.
-#[derive(Drop)]
+#[derive(Clone, Copy)]
 pub struct Doubts {
     pub sizes: Refusal,
     pub short: Refusal,
 }
 
 // A queue's capacity in force, and whether it is below the queue's minimum.
-#[derive(Drop)]
+#[derive(Clone, Copy)]
 pub struct Room {
     capacity: u32,
     short: bool,

@@ -1,4 +1,6 @@
 // The run state: a fresh start, what one firing does to it, and manual firing.
+#![tactic(auto)]
+
 ghost use Rattle.std.specs.Prelude.{◌≡◌, [], ltb, ◌+◌, ◌-◌};
 ghost use Rattle.chain.specs.Refusals.{first, refused};
 ghost use Rattle.state.specs.State.{refused_with};
@@ -12,7 +14,7 @@ use sizing::{CAPACITY, PLAN};
 // The state of a run: the clock, how often each node has fired (the source first), what each queue holds, and for each
 // queue the ticks of work done by the node that it feeds.
 #[repr(C)]
-#[derive(Drop)]
+#[derive(Clone, Copy)]
 pub struct Run {
     pub clock: u32,
     pub counts: [u32; 17],
@@ -22,7 +24,7 @@ pub struct Run {
 
 // A run state, with the refusal that the call ended with, if any.
 #[repr(C)]
-#[derive(Drop)]
+#[derive(Clone, Copy)]
 pub struct RunAnswer {
     pub number: u32,
     pub place: u32,

@@ -1,5 +1,7 @@
 // The steps of a tick over what a run lends: its plan, its flow, the work done and the deadline of each node's next
 // firing. A tick composes them. A run makes such ticks, and jumps over those in which nothing but work goes on.
+#![tactic(auto)]
+
 ghost use Rattle.std.specs.Prelude.{◌≡◌, ◌≤◌};
 ghost use Rattle.instants.specs.Quiet.{worked_in};
 ghost use Rattle.steps.specs.Lent.{full_in, Rooms, Sources, SourcedGives, Looks, LackingGives, ChosenGives, WorkFits, ended_at, Ends, FinishedGives};
@@ -21,7 +23,7 @@ pub const NO_DEADLINE: u32 = 2;
 pub const STALE: usize = 17;
 
 // What a step leaves in which a node may fire: how it ended, and whether the node has fired.
-#[derive(Drop)]
+#[derive(Clone, Copy)]
 pub struct Step {
     pub kind: u32,
     pub fired: bool,
@@ -29,7 +31,7 @@ pub struct Step {
 
 // What the source's step, 13 and the choice leave: how they ended, whether the source has fired, and the node that works, the
 // queue that overflowed, or the node without a deadline.
-#[derive(Drop)]
+#[derive(Clone, Copy)]
 pub struct Start {
     pub kind: u32,
     pub source: bool,
@@ -38,7 +40,7 @@ pub struct Start {
 
 // What one tick leaves: how it ended, the clock, the node that worked, the queue that overflowed or the node without a
 // deadline, and whether the source and the node that worked have fired.
-#[derive(Drop)]
+#[derive(Clone, Copy)]
 pub struct Passed {
     pub kind: u32,
     pub tick: u32,

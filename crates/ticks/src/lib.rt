@@ -1,6 +1,8 @@
 // One tick of a run state, by value, and the deadline run from a fresh start. Both make the same pass over what they lend:
 // a tick once, a run for every tick that is not quiet, its chain being checked once and a node's deadline kept until the
 // node fires.
+#![tactic(auto)]
+
 ghost use Rattle.std.specs.Prelude.{◌≡◌, ◌≤◌};
 ghost use Rattle.chain.specs.Refusals.{or_else};
 ghost use Rattle.chain.specs.Faults.{Few};
@@ -23,7 +25,7 @@ pub const LONGEST: u32 = 1000000;
 const LIMIT: u32 = 4294967295;
 
 // How ticks ended, the clock that they left, and the queue that overflowed or the node without a deadline.
-#[derive(Drop)]
+#[derive(Clone, Copy)]
 pub struct Ended {
     pub kind: u32,
     pub tick: u32,

@@ -1,5 +1,7 @@
 // Little-endian words of 32 bits on the caller's own bytes: a word, or a queue row of five, taken by a reader that keeps
 // its place, and written where there is room. Nothing else looks at a byte of a chain file.
+#![tactic(auto)]
+
 ghost use Rattle.std.specs.Prelude.{◌≡◌, ◌∷◌, [], ◌+◌, ◌*◌, ◌/◌, ◌%◌};
 ghost use Rattle.words.specs.Put.{Room, Puts};
 ghost use Rattle.words.specs.Words.{bytes_of, word_at};
@@ -8,7 +10,7 @@ ghost use Rattle.words.specs.Reader.{moved};
 
 // A queue row: produce, threshold and consume of 01, the capacity B and the reserved word.
 #[repr(C)]
-#[derive(Drop)]
+#[derive(Clone, Copy)]
 pub struct Queue {
     pub produce: u32,
     pub threshold: u32,
@@ -18,7 +20,7 @@ pub struct Queue {
 }
 
 // A reader on the caller's own bytes: it borrows them, copies none, and keeps the place that it has come to.
-#[derive(Drop)]
+#[derive(Clone, Copy)]
 pub struct ChainReader<'a> {
     pub bytes: &'a [u8],
     pub at: usize,
