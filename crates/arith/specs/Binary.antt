@@ -62,6 +62,7 @@ pub odd_part : (n : ℕ) → 0 < n → n < 2 ^ 32 → OddPart n (n / 2 ^ twos n)
 odd_part n h l = record { odd = zeros_odd 32 n h l; whole = zeros_whole 32 n }
 
 power_le : (p r : ℕ) → 0 < r → p ≤ p * r
+power_le p zero h = elim h [ ]
 power_le p (suc r) h = omega arith
 
 odd_part_le : (n r : ℕ) → OddPart n r → r ≤ n

@@ -23,7 +23,7 @@
 --                              when a record is refused with each number
 use Rattle.std.specs.Prelude.{◌≡◌, refl, true, ◌↔◌, List, [], ◌∷◌, ◌++◌, map, ℕ, ◌+◌, ◌*◌, ◌≤◌, ◌<◌, ltb, length, get_or, take}
 use Rattle.std.proofs.Common.{sym, ◌∙◌, add-zero, arith, lt-ltb, ltb-true}
-use Rattle.std.proofs.Math.Logic.{Iff·trans, Iff·and, Iff·rfl, true-and}
+use Rattle.std.proofs.Math.Logic.{Iff.trans, Iff.and, Iff.rfl, true-and}
 use Rattle.std.proofs.lemmas.List.{length-map}
 use Rattle.std.proofs.Math.ListN.{get_or-map}
 use Rattle.words.specs.Flat.{flat}
@@ -113,10 +113,10 @@ unfolding first range_check order_check
 chain_refusal c = first (chain_checks c)
 
 pub count_exact : (L n : ℕ) → (count_check n ≡ refused 2 L) ↔ (Out 1 16 n × (L ≡ 0))
-count_exact L n = Iff·trans (test_exact 2 L 0 (λ e. omega arith) (outside 1 16 n)) (Iff·and (outside_true 1 16 n) Iff·rfl)
+count_exact L n = Iff.trans (test_exact 2 L 0 (λ e. omega arith) (outside 1 16 n)) (Iff.and (outside_true 1 16 n) Iff.rfl)
 
 pub count_silent : (n : ℕ) → Silent (count_check n) ↔ In 1 16 n
-count_silent n = Iff·trans (test_silent 2 0 (λ e. omega arith) (outside 1 16 n)) (outside_false 1 16 n)
+count_silent n = Iff.trans (test_silent 2 0 (λ e. omega arith) (outside 1 16 n)) (outside_false 1 16 n)
 
 -- the same of an answer that code was given
 pub count_known : {r : Refusal} (n : ℕ) → r ≡ count_check n → Silent r → In 1 16 n
@@ -130,10 +130,10 @@ abbrev pub FieldIn : Field → Type 0
 FieldIn f = In f.least f.most f.value
 
 field_exact : (L : ℕ) (f : Field) → (out_of_range f ≡ refused 4 L) ↔ (FieldOut f × (L ≡ f.place))
-field_exact L f = Iff·trans (test_exact 4 L f.place (λ e. omega arith) _) (Iff·and (outside_true f.least f.most f.value) Iff·rfl)
+field_exact L f = Iff.trans (test_exact 4 L f.place (λ e. omega arith) _) (Iff.and (outside_true f.least f.most f.value) Iff.rfl)
 
 pub field_silent : (f : Field) → Silent (out_of_range f) ↔ FieldIn f
-field_silent f = Iff·trans (test_silent 4 f.place (λ e. omega arith) _) (outside_false f.least f.most f.value)
+field_silent f = Iff.trans (test_silent 4 f.place (λ e. omega arith) _) (outside_false f.least f.most f.value)
 
 -- the field at k of a list
 abbrev pub field_at : List Field → ℕ → Field
@@ -149,7 +149,7 @@ pub record FirstOut (fs : List Field) (L : ℕ) : Type 0 where
 
 pub range_exact : (L : ℕ) (c : Chain) (q w : ℕ) → (range_check c q w ≡ refused 4 L) ↔ FirstOut (fields c q w) L
 unfolding range_check
-range_exact L c q w = Iff·trans (first_is 4 L (λ e. omega arith) (map out_of_range fs)) (out, back)
+range_exact L c q w = Iff.trans (first_is 4 L (λ e. omega arith) (map out_of_range fs)) (out, back)
   where
     fs : List Field
     fs = fields c q w
@@ -177,7 +177,7 @@ range_exact L c q w = Iff·trans (first_is 4 L (λ e. omega arith) (map out_of_r
     }
 
 pub row_silent : (q : Queue) (at : ℕ) → Silent (overdrawn q at) ↔ (q.consume ≤ q.threshold)
-row_silent q at = Iff·trans (test_silent 5 (at + 8) (λ e. omega arith) _) (below_false _ _)
+row_silent q at = Iff.trans (test_silent 5 (at + 8) (λ e. omega arith) _) (below_false _ _)
 
 -- 5 in words: the first row whose c is above its τ has its c at L
 pub record FirstOver (c : Chain) (q L : ℕ) : Type 0 where
@@ -189,7 +189,7 @@ pub record FirstOver (c : Chain) (q L : ℕ) : Type 0 where
 
 pub order_exact : (L : ℕ) (c : Chain) (q : ℕ) → (order_check c q ≡ refused 5 L) ↔ FirstOver c q L
 unfolding order_check
-order_exact L c q = Iff·trans (lowest_is 5 L (λ e. omega arith) (λ i. overdrawn (row_of c i) (q + 20 * i)) c.n) (out, back)
+order_exact L c q = Iff.trans (lowest_is 5 L (λ e. omega arith) (λ i. overdrawn (row_of c i) (q + 20 * i)) c.n) (out, back)
   where
     says : (i : ℕ) → (overdrawn (row_of c i) (q + 20 * i) ≡ refused 5 L) ↔ ((ltb (row_of c i).threshold (row_of c i).consume ≡ true) × (L ≡ q + 20 * i + 8))
     says i = test_exact 5 L (q + 20 * i + 8) (λ e. omega arith) _
@@ -241,10 +241,10 @@ module _ (c : Chain) (L : ℕ) where
 
   pub record_2 : (chain_refusal c ≡ refused 2 L) ↔ (Out 1 16 c.n × (L ≡ 0))
   unfolding Silents
-  record_2 = Iff·trans (record_at 0 (omega arith)) (Iff·trans true-and (count_exact L c.n))
+  record_2 = Iff.trans (record_at 0 (omega arith)) (Iff.trans true-and (count_exact L c.n))
 
   pub record_4 : (chain_refusal c ≡ refused 4 L) ↔ (Silents (count_check c.n ∷ []) × FirstOut (fields c 20 (20 + 20 * c.n)) L)
-  record_4 = Iff·trans (record_at 1 (omega arith)) (Iff·and Iff·rfl (range_exact L c 20 (20 + 20 * c.n)))
+  record_4 = Iff.trans (record_at 1 (omega arith)) (Iff.and Iff.rfl (range_exact L c 20 (20 + 20 * c.n)))
 
   pub record_5 : (chain_refusal c ≡ refused 5 L) ↔ (Silents (count_check c.n ∷ record_range c ∷ []) × FirstOver c 20 L)
-  record_5 = Iff·trans (record_at 2 (omega arith)) (Iff·and Iff·rfl (order_exact L c 20))
+  record_5 = Iff.trans (record_at 2 (omega arith)) (Iff.and Iff.rfl (order_exact L c 20))

@@ -8,7 +8,7 @@
 --   factory_exact      14 is said exactly under its condition
 --   trimmed_factory    a chain that the factory gives has its slots past n zero
 use Rattle.std.specs.Prelude.{◌≡◌, refl, ◌↔◌, List, [], ◌∷◌, ℕ, zero, suc, ◌<◌, leb, length, get_or}
-use Rattle.std.proofs.Math.Logic.{Iff·trans, Iff·and, Iff·rfl}
+use Rattle.std.proofs.Math.Logic.{Iff.trans, Iff.and, Iff.rfl}
 use Rattle.std.proofs.Common.{arith}
 use Rattle.words.specs.Rows.{none}
 use Rattle.words.specs.Table.{tab, slots}
@@ -48,7 +48,7 @@ factory_answer k = answered (factory_refusal k) (get_or factory_chains k empty_c
 
 pub factory_exact : (L k : ℕ) → (factory_refusal k ≡ refused 14 L) ↔ ((2 < k) × (L ≡ k))
 unfolding factory_refusal
-factory_exact L k = Iff·trans (says_last 14 L (λ e. omega arith) (factory_check k)) (Iff·trans (test_exact 14 L k (λ e. omega arith) _) (Iff·and (below_true 2 k) Iff·rfl))
+factory_exact L k = Iff.trans (says_last 14 L (λ e. omega arith) (factory_check k)) (Iff.trans (test_exact 14 L k (λ e. omega arith) _) (Iff.and (below_true 2 k) Iff.rfl))
 
 -- a chain that the factory gives has its slots past n zero
 pub trimmed_factory : (k : ℕ) → trimmed (factory_answer k).chain ≡ (factory_answer k).chain

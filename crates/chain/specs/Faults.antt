@@ -9,7 +9,7 @@
 --                                   what the code of the pass asks: few rows, the first k of them fine, at places of a file
 use Rattle.std.specs.Prelude.{◌≡◌, Bool, true, ◌&&◌, ◌↔◌, [], ◌∷◌, ℕ, ◌+◌, ◌*◌, ◌≤◌, ◌<◌, leb, eqb}
 use Rattle.std.proofs.Common.{sym, ap₂, arith}
-use Rattle.std.proofs.Math.Logic.{Iff·trans}
+use Rattle.std.proofs.Math.Logic.{Iff.trans}
 use Rattle.words.specs.Table.{tab}
 use Rattle.words.specs.declared.Queue.{Queue}
 use Rattle.chain.specs.Tests.{In, upto_true, equal_true, and_true}
@@ -35,7 +35,7 @@ fine_row q e =
     && leb e 1000000
 
 pub fine_row_law : (q : Queue) (e : ℕ) → (fine_row q e ≡ true) ↔ (SoundRow q × In 1 1000000 e)
-fine_row_law q e = Iff·trans
+fine_row_law q e = Iff.trans
     (and_true (and_true (and_true (and_true (and_true (and_true (and_true (and_true (upto_true _ _) (upto_true _ _)) (upto_true _ _)) (upto_true _ _)) (upto_true _ _))
     (upto_true _ _)) (equal_true _ _)) (upto_true _ _)) (upto_true _ _)) (
       λ (((((((p, t), c), o), b), r), k), k'). (record { produce = p; threshold = (omega arith, t); consume = (c, omega arith); capacity = b; reserved = r; order = o }, (k, k')),

@@ -32,7 +32,7 @@
 use Rattle.std.specs.Prelude.{◌≡◌, Bool, true, false, cond, not, ◌&&◌, ◌↔◌, ◌≢◌, ◌⊎◌, T, eqb, length, get_or, take, drop}
 use Rattle.std.proofs.Math.Path.{refl, sym, ap}
 use Rattle.std.proofs.Common.{ap₂, ◌∙◌, true≢false, inl, inr, ⊎_elim, not-suc-le-zero, arith, T_not, eq-eqb, ne_eqb}
-use Rattle.std.proofs.Math.Logic.{Iff·trans, Iff·symm, Iff·and, Iff·rfl, true-and, by_cases}
+use Rattle.std.proofs.Math.Logic.{Iff.trans, Iff.symm, Iff.and, Iff.rfl, true-and, by_cases}
 use mathlib.Core.List.{List, [], ◌∷◌, ◌++◌, map, map-append}
 use Prim.Native.Nat.{ℕ, zero, suc, ◌+◌, ◌<◌}
 use Rattle.std.proofs.Math.Decide.{ℕ_discrete}
@@ -117,7 +117,7 @@ or_silents r s = (out, λ h. number_of (or_silent r s h.0) ∙ h.1)
 pub first_silent : (rs : List Refusal) → Silent (first rs) ↔ Silents rs
 unfolding first Silents
 first_silent [] = (λ h. tt, λ h. refl)
-first_silent (r ∷ rs) = Iff·trans (or_silents r (first rs)) (Iff·and Iff·rfl (first_silent rs))
+first_silent (r ∷ rs) = Iff.trans (or_silents r (first rs)) (Iff.and Iff.rfl (first_silent rs))
 
 silents_at : (rs : List Refusal) → Silents rs → (j : ℕ) → Silent (get_or rs j fine)
 unfolding Silents
@@ -185,7 +185,7 @@ or_says N L some r s = (out, ⊎_elim (λ e. or_speaks r s (says_some N L some e
 
 pub says_last : (N L : ℕ) → N ≢ 0 → (r : Refusal) → (first (r ∷ []) ≡ refused N L) ↔ (r ≡ refused N L)
 unfolding first
-says_last N L some r = Iff·trans (or_says N L some r fine) (⊎_elim (λ e. e) (λ h. absurd (some (sym (number_of h.1)))), inl)
+says_last N L some r = Iff.trans (or_says N L some r fine) (⊎_elim (λ e. e) (λ h. absurd (some (sym (number_of h.1)))), inl)
 
 -- a single test says N at L exactly when it fails and L is its place, and nothing exactly when it passes
 pub test_exact : (N L M : ℕ) → N ≢ 0 → (wrong : Bool) → (test N M wrong ≡ refused N L) ↔ ((wrong ≡ true) × (L ≡ M))
@@ -314,19 +314,19 @@ speaks_numbered N some (M ∷ Ms) (r ∷ rs) o a e = speaks? r
 -- checks behind others have no number but their own, so every other number is said exactly when the others say it
 pub said_earlier : (N L : ℕ) → N ≢ 0 → (ps : List Refusal) (Ns : List ℕ) (rs : List Refusal) → Numbered Ns rs → Others N Ns → (first (ps ++ rs) ≡ refused N L) ↔ (first ps ≡ refused N L)
 said_earlier N L some ps Ns rs o a = rw (first_append ps rs)
-    (Iff·trans (or_says N L some (first ps) (first rs)) (⊎_elim (λ e. e) (λ s. absurd (speaks_numbered N some Ns rs o a (number_of s.1))), inl))
+    (Iff.trans (or_says N L some (first ps) (first rs)) (⊎_elim (λ e. e) (λ s. absurd (speaks_numbered N some Ns rs o a (number_of s.1))), inl))
 
 -- a number that no check but check k may have is said exactly when the checks before that one are silent and it says so
 said_alone : (N L : ℕ) → N ≢ 0 → (Ns : List ℕ) (rs : List Refusal) → Numbered Ns rs → (k : ℕ) → Others N (elsewhere k Ns)
     → (first rs ≡ refused N L) ↔ (Silents (take k rs) × (get_or rs k fine ≡ refused N L))
 unfolding first Silents Numbered
-said_alone N L some Ns [] o zero a = Iff·symm true-and
-said_alone N L some Ns [] o (suc k) a = Iff·symm true-and
+said_alone N L some Ns [] o zero a = Iff.symm true-and
+said_alone N L some Ns [] o (suc k) a = Iff.symm true-and
 said_alone N L some [] (r ∷ rs) o k a = absurd o
-said_alone N L some (M ∷ Ms) (r ∷ rs) o zero a = Iff·trans (said_earlier N L some (r ∷ []) Ms rs o.1 a) (Iff·trans (says_last N L some r) (Iff·symm true-and))
+said_alone N L some (M ∷ Ms) (r ∷ rs) o zero a = Iff.trans (said_earlier N L some (r ∷ []) Ms rs o.1 a) (Iff.trans (says_last N L some r) (Iff.symm true-and))
 said_alone N L some (M ∷ Ms) (r ∷ rs) o (suc k) a =
     let rest = said_alone N L some Ms rs o.1 k a.1 in
-    Iff·trans (or_says N L some r (first rs)) (
+    Iff.trans (or_says N L some r (first rs)) (
       ⊎_elim
           (λ e. absurd (a.0 (sym (o.0 (says_some N L some e)) ∙ number_of e)))
           (λ s. let q = rest.0 s.1 in ((s.0, q.0), q.1)),
@@ -361,7 +361,7 @@ pub record Lowest (g : ℕ → Refusal) (n N L : ℕ) : Type 0 where
   pub before : (j : ℕ) → j < at → Silent (g j)
 
 pub lowest_is : (N L : ℕ) → N ≢ 0 → (g : ℕ → Refusal) (n : ℕ) → (first (tab n g) ≡ refused N L) ↔ Lowest g n N L
-lowest_is N L some g n = Iff·trans (first_is N L some (tab n g)) (out, back)
+lowest_is N L some g n = Iff.trans (first_is N L some (tab n g)) (out, back)
   where
     out : First (tab n g) N L → Lowest g n N L
     out f =
@@ -382,7 +382,7 @@ lowest_is N L some g n = Iff·trans (first_is N L some (tab n g)) (out, back)
     }
 
 pub all_silent : (g : ℕ → Refusal) (n : ℕ) → Silent (first (tab n g)) ↔ ((i : ℕ) → i < n → Silent (g i))
-all_silent g n = Iff·trans (first_silent (tab n g)) (
+all_silent g n = Iff.trans (first_silent (tab n g)) (
   λ h i l. number_of (sym (tab_at n g i fine l)) ∙ silents_at (tab n g) h i,
   λ h. silents_all (tab n g) (λ j l. let m : j < n = rw (length_tab n g) at l in number_of (tab_at n g j fine m) ∙ h j m),
 )

@@ -7,7 +7,7 @@
 --   sound, sound_known              a record is not refused exactly when it is sound
 use Rattle.std.specs.Prelude.{◌≡◌, ◌↔◌, List, [], ◌∷◌, map, ℕ, ◌+◌, ◌*◌, ◌≤◌, ◌<◌}
 use Rattle.std.proofs.Common.{ap, ap₂, ◌∙◌, arith}
-use Rattle.std.proofs.Math.Logic.{Iff·trans, Iff·and}
+use Rattle.std.proofs.Math.Logic.{Iff.trans, Iff.and}
 use Rattle.std.proofs.lemmas.List.{map-append}
 use Rattle.words.specs.Flat.{flat}
 use Rattle.words.specs.Table.{tab}
@@ -93,7 +93,7 @@ row_sound q at = (out, back)
 range_silent : (c : Chain) (q w : ℕ) → Silent (range_check c q w)
     ↔ (In 1 1000000 c.period × (((i : ℕ) → i < c.n → Silent (row_range (row_of c i) (q + 20 * i))) × ((i : ℕ) → i < c.n → Silent (node_range (work_of c i) (w + 4 * i)))))
 range_silent c q w = rw (range_parts c q w)
-    (Iff·trans (or_silents _ _) (Iff·and (field_silent (ticks 4 c.period)) (Iff·trans (or_silents _ _) (Iff·and (all_silent _ c.n) (all_silent _ c.n)))))
+    (Iff.trans (or_silents _ _) (Iff.and (field_silent (ticks 4 c.period)) (Iff.trans (or_silents _ _) (Iff.and (all_silent _ c.n) (all_silent _ c.n)))))
 
 -- a chain passes 2, 4 and 5, its tables standing anywhere, exactly when it is sound
 pub sound_is : (c : Chain) (q w : ℕ) → Silents (count_check c.n ∷ range_check c q w ∷ order_check c q ∷ []) ↔ Sound c
@@ -128,7 +128,7 @@ sound_is c q w = (out, back)
 
 pub sound : (c : Chain) → Silent (chain_refusal c) ↔ Sound c
 unfolding chain_refusal
-sound c = Iff·trans (first_silent (chain_checks c)) (sound_is c 20 (20 + 20 * c.n))
+sound c = Iff.trans (first_silent (chain_checks c)) (sound_is c 20 (20 + 20 * c.n))
 
 -- the same of an answer that code was given
 pub sound_known : {r : Refusal} (c : Chain) → r ≡ chain_refusal c → Silent r → Sound c

@@ -5,7 +5,7 @@
 --   write_accepts          the writer accepts exactly a sound chain that fits
 --   read_fine, write_fine  a call that is silent answers number 0 with place 0
 use Rattle.std.specs.Prelude.{◌≡◌, refl, Bool, false, ◌↔◌, List, [], ◌∷◌, ℕ, ◌+◌, ◌*◌, ◌≤◌, length}
-use Rattle.std.proofs.Math.Logic.{Iff·trans}
+use Rattle.std.proofs.Math.Logic.{Iff.trans}
 use Rattle.std.proofs.Common.{arith}
 use Rattle.chain.specs.Tests.{In, below_false}
 use Rattle.chain.specs.Refusals.{fine, test, first, Silent, Silents, silent_as, first_fine, first_silent, test_silent}
@@ -53,7 +53,7 @@ pub record AcceptedFile (f : List ℕ) : Type 0 where
 
 pub read_accepts : (f : List ℕ) → Silent (read_refusal f) ↔ AcceptedFile f
 unfolding read_refusal header_refusal offset_check chain_of Silents
-read_accepts f = Iff·trans (first_silent (read_checks f)) (out, back)
+read_accepts f = Iff.trans (first_silent (read_checks f)) (out, back)
   where
     offsets : List Refusal
     offsets = offset_tests (length f) (count_of f) (queues_at f) (nodes_at f)
@@ -84,13 +84,13 @@ read_accepts f = Iff·trans (first_silent (read_checks f)) (out, back)
 
 pub write_accepts : (c : Chain) (room : ℕ) → Silent (write_refusal c room) ↔ (Sound c × (packed_length c.n ≤ room))
 unfolding write_refusal Silents
-write_accepts c room = Iff·trans (first_silent (write_checks c room)) (out, back)
+write_accepts c room = Iff.trans (first_silent (write_checks c room)) (out, back)
   where
     own : Silents (count_check c.n ∷ record_range c ∷ record_order c ∷ []) ↔ Sound c
     own = sound_is c 20 (20 + 20 * c.n)
 
     fits : Silent (room_check (packed_length c.n) room) ↔ (packed_length c.n ≤ room)
-    fits = Iff·trans (test_silent 10 _ (λ e. omega arith) _) (below_false room (packed_length c.n))
+    fits = Iff.trans (test_silent 10 _ (λ e. omega arith) _) (below_false room (packed_length c.n))
 
     out : Silents (write_checks c room) → Sound c × (packed_length c.n ≤ room)
     out h = (own.0 (h.0, (h.1.0, (h.1.1.0, tt))), fits.0 h.1.1.1.0)

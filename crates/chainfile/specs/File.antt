@@ -25,7 +25,7 @@
 --   read_1 .. read_5           when a file is refused with each number
 use Rattle.std.specs.Prelude.{◌≡◌, refl, Bool, true, false, ◌||◌, ◌&&◌, not, ◌↔◌, ◌≢◌, ◌⊎◌, List, [], ◌∷◌, ℕ, ◌+◌, ◌*◌, ◌%◌, ◌≤◌, ◌<◌, max, ltb, eqb, length, get_or, take, drop}
 use Rattle.std.proofs.Common.{sym, ◌∙◌, true≢false, arith}
-use Rattle.std.proofs.Math.Logic.{Iff·trans, Iff·and, Iff·rfl, true-and}
+use Rattle.std.proofs.Math.Logic.{Iff.trans, Iff.and, Iff.rfl, true-and}
 use Rattle.words.specs.Rows.{none, row_at}
 use Rattle.words.specs.Table.{slots}
 use Rattle.words.specs.Words.{word_at}
@@ -127,10 +127,10 @@ abbrev pub BadLength : List ℕ → Type 0
 BadLength f = Out 20 4096 (length f) ⊎ (total_of f ≢ length f)
 
 pub length_exact : (L : ℕ) (f : List ℕ) → (length_check f ≡ refused 1 L) ↔ (BadLength f × (L ≡ 0))
-length_exact L f = Iff·trans (test_exact 1 L 0 (λ e. omega arith) _) (Iff·and (or_true (outside_true 20 4096 (length f)) (differ_true (total_of f) (length f))) Iff·rfl)
+length_exact L f = Iff.trans (test_exact 1 L 0 (λ e. omega arith) _) (Iff.and (or_true (outside_true 20 4096 (length f)) (differ_true (total_of f) (length f))) Iff.rfl)
 
 pub length_silent : (f : List ℕ) → Silent (length_check f) ↔ (In 20 4096 (length f) × (total_of f ≡ length f))
-length_silent f = Iff·trans (test_silent 1 0 (λ e. omega arith) _) (or_false (outside_false 20 4096 (length f)) (differ_false (total_of f) (length f)))
+length_silent f = Iff.trans (test_silent 1 0 (λ e. omega arith) _) (or_false (outside_false 20 4096 (length f)) (differ_false (total_of f) (length f)))
 
 pub length_only : (f : List ℕ) → Only 1 (length_check f)
 length_only f = only_test 1 0 (wrong_length (length f) (total_of f))
@@ -157,7 +157,7 @@ good_table len at end = or_false (differ_false (at % 4) 0) (or_false (below_fals
 
 -- the tables of n rows overlap exactly when some byte lies in both
 pub overlap_true : (n q w : ℕ) → (overlap q (q + 20 * n) w (w + 4 * n) ≡ true) ↔ Shared q (q + 20 * n) w (w + 4 * n)
-overlap_true n q w = Iff·trans (and_true (below_true q (w + 4 * n)) (below_true w (q + 20 * n))) (out, λ s. (omega (arith, s.in_queues, s.in_nodes), omega (arith, s.in_queues, s.in_nodes)))
+overlap_true n q w = Iff.trans (and_true (below_true q (w + 4 * n)) (below_true w (q + 20 * n))) (out, λ s. (omega (arith, s.in_queues, s.in_nodes), omega (arith, s.in_queues, s.in_nodes)))
   where
     out : (q < w + 4 * n) × (w < q + 20 * n) → Shared q (q + 20 * n) w (w + 4 * n)
     out h = record { byte = max q w; in_queues = (omega arith, omega arith); in_nodes = (omega arith, omega arith) }
@@ -178,18 +178,18 @@ BadTables len n q w L = (BadTable len q (q + 20 * n) × (L ≡ 8))
 pub offset_exact : (L len n q w : ℕ) → (offset_check len n q w ≡ refused 3 L) ↔ BadTables len n q w L
 unfolding offset_check first
 offset_exact L len n q w =
-    Iff·trans (or_says 3 L three _ _) (sum_iff (bad 8 q (q + 20 * n)) (Iff·and (good 8 q (q + 20 * n))
-    (Iff·trans (or_says 3 L three _ _) (sum_iff (bad 12 w (w + 4 * n)) (Iff·and (good 12 w (w + 4 * n))
-    (Iff·trans (says_last 3 L three _) (Iff·trans (test_exact 3 L 12 three _) (Iff·and (overlap_true n q w) Iff·rfl))))))))
+    Iff.trans (or_says 3 L three _ _) (sum_iff (bad 8 q (q + 20 * n)) (Iff.and (good 8 q (q + 20 * n))
+    (Iff.trans (or_says 3 L three _ _) (sum_iff (bad 12 w (w + 4 * n)) (Iff.and (good 12 w (w + 4 * n))
+    (Iff.trans (says_last 3 L three _) (Iff.trans (test_exact 3 L 12 three _) (Iff.and (overlap_true n q w) Iff.rfl))))))))
   where
     three : ◌≢◌ {A = ℕ} 3 0
     three e = omega arith
 
     bad : (P at end : ℕ) → (test 3 P (bad_table len at end) ≡ refused 3 L) ↔ (BadTable len at end × (L ≡ P))
-    bad P at end = Iff·trans (test_exact 3 L P three _) (Iff·and (bad_table_law len at end) Iff·rfl)
+    bad P at end = Iff.trans (test_exact 3 L P three _) (Iff.and (bad_table_law len at end) Iff.rfl)
 
     good : (P at end : ℕ) → Silent (test 3 P (bad_table len at end)) ↔ GoodTable len at end
-    good P at end = Iff·trans (test_silent 3 P three _) (good_table len at end)
+    good P at end = Iff.trans (test_silent 3 P three _) (good_table len at end)
 
 pub offset_only : (len n q w : ℕ) → Only 3 (offset_check len n q w)
 unfolding offset_check first
@@ -216,16 +216,16 @@ module _ (f : List ℕ) (L : ℕ) where
 
   pub read_1 : (read_refusal f ≡ refused 1 L) ↔ (BadLength f × (L ≡ 0))
   unfolding Silents
-  read_1 = Iff·trans (read_at 0 (omega arith)) (Iff·trans true-and (length_exact L f))
+  read_1 = Iff.trans (read_at 0 (omega arith)) (Iff.trans true-and (length_exact L f))
 
   pub read_2 : (read_refusal f ≡ refused 2 L) ↔ (Silents (length_check f ∷ []) × (Out 1 16 (count_of f) × (L ≡ 0)))
-  read_2 = Iff·trans (read_at 1 (omega arith)) (Iff·and Iff·rfl (count_exact L (count_of f)))
+  read_2 = Iff.trans (read_at 1 (omega arith)) (Iff.and Iff.rfl (count_exact L (count_of f)))
 
   pub read_3 : (read_refusal f ≡ refused 3 L) ↔ (Silents (length_check f ∷ count_check (count_of f) ∷ []) × BadTables (length f) (count_of f) (queues_at f) (nodes_at f) L)
-  read_3 = Iff·trans (read_at 2 (omega arith)) (Iff·and Iff·rfl (offset_exact L (length f) (count_of f) (queues_at f) (nodes_at f)))
+  read_3 = Iff.trans (read_at 2 (omega arith)) (Iff.and Iff.rfl (offset_exact L (length f) (count_of f) (queues_at f) (nodes_at f)))
 
   pub read_4 : (read_refusal f ≡ refused 4 L) ↔ (Silents (length_check f ∷ count_check (count_of f) ∷ file_offsets f ∷ []) × FirstOut (fields (chain_of f) (queues_at f) (nodes_at f)) L)
-  read_4 = Iff·trans (read_at 3 (omega arith)) (Iff·and Iff·rfl (range_exact L (chain_of f) (queues_at f) (nodes_at f)))
+  read_4 = Iff.trans (read_at 3 (omega arith)) (Iff.and Iff.rfl (range_exact L (chain_of f) (queues_at f) (nodes_at f)))
 
   pub read_5 : (read_refusal f ≡ refused 5 L) ↔ (Silents (length_check f ∷ count_check (count_of f) ∷ file_offsets f ∷ file_range f ∷ []) × FirstOver (chain_of f) (queues_at f) L)
-  read_5 = Iff·trans (read_at 4 (omega arith)) (Iff·and Iff·rfl (order_exact L (chain_of f) (queues_at f)))
+  read_5 = Iff.trans (read_at 4 (omega arith)) (Iff.and Iff.rfl (order_exact L (chain_of f) (queues_at f)))

@@ -21,7 +21,7 @@
 --   TableFits, Fits      what the code of the writer asks: few queues, and room
 use Rattle.std.specs.Prelude.{◌≡◌, refl, Bool, true, false, cond, ◌↔◌, List, [], ◌∷◌, ◌++◌, ℕ, ◌+◌, ◌*◌, ◌≤◌, ◌<◌, ltb, eqb, length, drop, get_or, take}
 use Rattle.std.proofs.Common.{sym, ap, ◌∙◌, arith, length-append}
-use Rattle.std.proofs.Math.Logic.{Iff·trans, Iff·and, Iff·rfl, true-and}
+use Rattle.std.proofs.Math.Logic.{Iff.trans, Iff.and, Iff.rfl, true-and}
 use Rattle.words.specs.Flat.{flat, flat_length}
 use Rattle.words.specs.Words.{bytes_of, bytes_append, bytes_length}
 use Rattle.words.specs.Rows.{row}
@@ -96,7 +96,7 @@ output_within {r} {t} {o} {p} {a} w = by (eqb r.number 0) w.answer w.bytes
     by false e f = omega (arith, ap (λ (v : LengthAnswer). v.length) e)
 
 pub room_exact : (L need room : ℕ) → (room_check need room ≡ refused 10 L) ↔ ((room < need) × (L ≡ need))
-room_exact L need room = Iff·trans (test_exact 10 L need (λ e. omega arith) _) (Iff·and (below_true room need) Iff·rfl)
+room_exact L need room = Iff.trans (test_exact 10 L need (λ e. omega arith) _) (Iff.and (below_true room need) Iff.rfl)
 
 pub room_only : (need room : ℕ) → Only 10 (room_check need room)
 room_only need room = only_test 10 need (ltb room need)
@@ -122,16 +122,16 @@ module _ (c : Chain) (room L : ℕ) where
 
   pub write_2 : (write_refusal c room ≡ refused 2 L) ↔ (Out 1 16 c.n × (L ≡ 0))
   unfolding Silents
-  write_2 = Iff·trans (write_at 0 (omega arith)) (Iff·trans true-and (count_exact L c.n))
+  write_2 = Iff.trans (write_at 0 (omega arith)) (Iff.trans true-and (count_exact L c.n))
 
   pub write_4 : (write_refusal c room ≡ refused 4 L) ↔ (Silents (count_check c.n ∷ []) × FirstOut (fields c 20 (20 + 20 * c.n)) L)
-  write_4 = Iff·trans (write_at 1 (omega arith)) (Iff·and Iff·rfl (range_exact L c 20 (20 + 20 * c.n)))
+  write_4 = Iff.trans (write_at 1 (omega arith)) (Iff.and Iff.rfl (range_exact L c 20 (20 + 20 * c.n)))
 
   pub write_5 : (write_refusal c room ≡ refused 5 L) ↔ (Silents (count_check c.n ∷ record_range c ∷ []) × FirstOver c 20 L)
-  write_5 = Iff·trans (write_at 2 (omega arith)) (Iff·and Iff·rfl (order_exact L c 20))
+  write_5 = Iff.trans (write_at 2 (omega arith)) (Iff.and Iff.rfl (order_exact L c 20))
 
   pub write_10 : (write_refusal c room ≡ refused 10 L) ↔ (Silents (count_check c.n ∷ record_range c ∷ record_order c ∷ []) × ((room < packed_length c.n) × (L ≡ packed_length c.n)))
-  write_10 = Iff·trans (write_at 3 (omega arith)) (Iff·and Iff·rfl (room_exact L (packed_length c.n) room))
+  write_10 = Iff.trans (write_at 3 (omega arith)) (Iff.and Iff.rfl (room_exact L (packed_length c.n) room))
 
 -- how long the tables and the file are
 pub rows_length : (c : Chain) (i : ℕ) → length (rows c i) ≡ 5 * i

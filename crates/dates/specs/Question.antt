@@ -19,7 +19,7 @@
 --   dated_exact                it is never exactly when 13 speaks
 use Rattle.std.specs.Prelude.{◌≡◌, refl, ◌↔◌, ◌≢◌, ◌⊎◌, false, cond, ◌||◌, List, [], ◌∷◌, ◌++◌, ℕ, zero, suc, ◌+◌, ◌-◌, ◌*◌, ◌^◌, ◌≤◌, ◌<◌, ltb, eqb, get_or, take}
 use Rattle.std.proofs.Common.{sym, mul-le-mul, eq-eqb, ne_eqb}
-use Rattle.std.proofs.Math.Logic.{Iff·trans, Iff·and, Iff·rfl}
+use Rattle.std.proofs.Math.Logic.{Iff.trans, Iff.and, Iff.rfl}
 use native.Mathlib.Omega.{arith}
 use Rattle.std.proofs.lemmas.Bool.{eqb-false}
 use Rattle.chain.specs.Tests.{below_true, below_false, equal_true, or_true, or_false}
@@ -88,10 +88,10 @@ module _ (c : Chain) (i k : ℕ) where
   unequal a b = (λ e. eqb-false a b e, λ n. ne_eqb a b n)
 
   pub ask_exact : (L : ℕ) → (ask_check c i k ≡ refused 11 L) ↔ (((c.n < i) ⊎ (k ≡ 0)) × (L ≡ i))
-  ask_exact L = Iff·trans (test_exact 11 L i (λ e. omega arith) _) (Iff·and (or_true (below_true _ _) (equal_true _ _)) Iff·rfl)
+  ask_exact L = Iff.trans (test_exact 11 L i (λ e. omega arith) _) (Iff.and (or_true (below_true _ _) (equal_true _ _)) Iff.rfl)
 
   pub ask_silent : Silent (ask_check c i k) ↔ ((i ≤ c.n) × (1 ≤ k))
-  ask_silent = Iff·trans (test_silent 11 i (λ e. omega arith) _) (or_false (below_false _ _) (Iff·trans (unequal k 0) (λ n. omega arith, λ l e. omega arith)))
+  ask_silent = Iff.trans (test_silent 11 i (λ e. omega arith) _) (or_false (below_false _ _) (Iff.trans (unequal k 0) (λ n. omega arith, λ l e. omega arith)))
 
   pub ask_only : Only 11 (ask_check c i k)
   ask_only = only_test 11 i (ltb c.n i || eqb k 0)
@@ -124,10 +124,10 @@ module _ (c : Chain) (i k L : ℕ) where
   deadline_at m l = exact_at deadline_numbers (deadline_checks c i k) (deadline_numbered c i k) tt m L l
 
   pub deadline_11 : (deadline_refusal c i k ≡ refused 11 L) ↔ (Silents (run_checks c) × (((c.n < i) ⊎ (k ≡ 0)) × (L ≡ i)))
-  deadline_11 = Iff·trans (deadline_at 6 (omega arith)) (Iff·and Iff·rfl (ask_exact c i k L))
+  deadline_11 = Iff.trans (deadline_at 6 (omega arith)) (Iff.and Iff.rfl (ask_exact c i k L))
 
   pub deadline_13 : (deadline_refusal c i k ≡ refused 13 L) ↔ (Silents (run_checks c ++ (ask_check c i k ∷ [])) × FirstPassing c i k L)
-  deadline_13 = Iff·trans (deadline_at 7 (omega arith)) (Iff·and Iff·rfl (index_exact c i k L))
+  deadline_13 = Iff.trans (deadline_at 7 (omega arith)) (Iff.and Iff.rfl (index_exact c i k L))
 
   -- what is said of every run stands, and nothing else has its numbers
   pub deadline_earlier : (N : ℕ) → N ≢ 0 → N < 9 → (deadline_refusal c i k ≡ refused N L) ↔ (run_refusal c ≡ refused N L)
@@ -140,8 +140,8 @@ module _ (c : Chain) (i k : ℕ) where
   pub deadline_accepts : Silent (deadline_refusal c i k) ↔ ((Accepted c × ((j : ℕ) → j < c.n → Enough c j)) × (((i ≤ c.n) × (1 ≤ k)) × ((j : ℕ) → j ≤ i → index c i k j ≤ limit)))
   unfolding Silents
   deadline_accepts =
-      Iff·trans (silent_as (deadline_parts c i k), silent_as (sym (deadline_parts c i k)))
-      (Iff·trans (or_silents (run_refusal c) _) (Iff·and (run_accepts c) (Iff·trans (first_silent (ask_check c i k ∷ index_check c i k ∷ [])) (out, back))))
+      Iff.trans (silent_as (deadline_parts c i k), silent_as (sym (deadline_parts c i k)))
+      (Iff.trans (or_silents (run_refusal c) _) (Iff.and (run_accepts c) (Iff.trans (first_silent (ask_check c i k ∷ index_check c i k ∷ [])) (out, back))))
     where
       out : Silents (ask_check c i k ∷ index_check c i k ∷ []) → ((i ≤ c.n) × (1 ≤ k)) × ((j : ℕ) → j ≤ i → index c i k j ≤ limit)
       out h = ((ask_silent c i k).0 h.0, (index_silent c i k).0 h.1.0)

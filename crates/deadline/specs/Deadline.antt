@@ -13,7 +13,7 @@
 use Rattle.std.specs.Prelude.{◌≡◌, ◌↔◌, ◌⊎◌, cond, ltb, leb}
 use Rattle.std.proofs.Math.Path.{refl, subst}
 use Rattle.std.proofs.Common.{ap, inl, inr, ⊎_elim, le-leb}
-use Rattle.std.proofs.Math.Logic.{by_cases, Iff·trans, Iff·and, Iff·rfl}
+use Rattle.std.proofs.Math.Logic.{by_cases, Iff.trans, Iff.and, Iff.rfl}
 use Prim.Native.Nat.{ℕ, zero, suc, ◌+◌, ◌-◌, ◌*◌, ◌/◌, ◌≤◌, ◌<◌}
 use Rattle.std.proofs.Math.Nat.{mul-le-mul_right, le_step, le_refl}
 use Rattle.std.proofs.Math.Decide.{dec_le}
@@ -97,23 +97,23 @@ module _ (c : Chain) where
 
   pub index_exact : (i k L : ℕ) → (index_check c i k ≡ refused 13 L) ↔ FirstPassing c i k L
   unfolding index_check
-  index_exact zero k L = Iff·trans (Iff·trans (test_exact 13 L 0 (λ e. omega arith) (ltb limit k)) (Iff·and (below_true limit k) Iff·rfl)) (
+  index_exact zero k L = Iff.trans (Iff.trans (test_exact 13 L 0 (λ e. omega arith) (ltb limit k)) (Iff.and (below_true limit k) Iff.rfl)) (
     λ h. rw h.1 (passing_here 0 k h.0),
     λ f. let z : L ≡ 0 = omega (arith, f.node) in (subst (λ (m : ℕ). limit < m) (index_here 0 k L (omega arith)) f.passes, z),
   )
   index_exact (suc i) k L =
-      Iff·trans (or_says 13 L (λ e. omega arith) (test 13 (suc i) (ltb limit k)) (index_check c i (earlier (row_of c i) k)))
-      (Iff·trans (sum_iff (Iff·trans (test_exact 13 L (suc i) (λ e. omega arith) (ltb limit k)) (Iff·and (below_true limit k) Iff·rfl))
-      (Iff·and (Iff·trans (test_silent 13 (suc i) (λ e. omega arith) (ltb limit k)) (below_false limit k)) (index_exact i (earlier (row_of c i) k) L)))
+      Iff.trans (or_says 13 L (λ e. omega arith) (test 13 (suc i) (ltb limit k)) (index_check c i (earlier (row_of c i) k)))
+      (Iff.trans (sum_iff (Iff.trans (test_exact 13 L (suc i) (λ e. omega arith) (ltb limit k)) (Iff.and (below_true limit k) Iff.rfl))
+      (Iff.and (Iff.trans (test_silent 13 (suc i) (λ e. omega arith) (ltb limit k)) (below_false limit k)) (index_exact i (earlier (row_of c i) k) L)))
       (⊎_elim (λ h. rw h.1 (passing_here (suc i) k h.0)) (λ h. passing_down i k L h.0 h.1), passing_up i k L))
 
   pub index_silent : (i k : ℕ) → Silent (index_check c i k) ↔ ((j : ℕ) → j ≤ i → index c i k j ≤ limit)
   unfolding index_check
-  index_silent zero k = Iff·trans (Iff·trans (test_silent 13 0 (λ e. omega arith) (ltb limit k)) (below_false limit k))
+  index_silent zero k = Iff.trans (Iff.trans (test_silent 13 0 (λ e. omega arith) (ltb limit k)) (below_false limit k))
       (λ h j l. rw (index_here 0 k j (omega arith)) h, λ h. subst (λ (m : ℕ). m ≤ limit) (index_here 0 k 0 (omega arith)) (h 0 (omega arith)))
   index_silent (suc i) k =
-      Iff·trans (or_silents (test 13 (suc i) (ltb limit k)) (index_check c i (earlier (row_of c i) k)))
-      (Iff·trans (Iff·and (Iff·trans (test_silent 13 (suc i) (λ e. omega arith) (ltb limit k)) (below_false limit k)) (index_silent i (earlier (row_of c i) k))) (out, back))
+      Iff.trans (or_silents (test 13 (suc i) (ltb limit k)) (index_check c i (earlier (row_of c i) k)))
+      (Iff.trans (Iff.and (Iff.trans (test_silent 13 (suc i) (λ e. omega arith) (ltb limit k)) (below_false limit k)) (index_silent i (earlier (row_of c i) k))) (out, back))
     where
       out : (k ≤ limit) × ((j : ℕ) → j ≤ i → index c i (earlier (row_of c i) k) j ≤ limit) → (j : ℕ) → j ≤ suc i → index c (suc i) k j ≤ limit
       out h j l = by_cases (dec_le j i) (λ m. rw (index_down i k j m) (h.1 j m)) (λ n. rw (index_here (suc i) k j (omega arith)) h.0)

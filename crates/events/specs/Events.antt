@@ -39,8 +39,8 @@ contents p c x (take ∷ es) = contents p c (x - c) es
 pub contents_after : (p c x : ℕ) (before after : List Event) → contents p c x (before ++ after) ≡ contents p c (contents p c x before) after
 unfolding contents
 contents_after p c x [] after = refl
-contents_after p c x (put ∷ before) after = contents_after p c _ before after
-contents_after p c x (take ∷ before) after = contents_after p c _ before after
+contents_after p c x (put ∷ before) after = contents_after p c (x + p) before after
+contents_after p c x (take ∷ before) after = contents_after p c (x - c) before after
 
 -- "may fire when its input queue holds at least τ"
 unfoldable pub Allowed : ℕ → ℕ → ℕ → ℕ → List Event → Type 0

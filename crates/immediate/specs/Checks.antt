@@ -16,7 +16,7 @@
 use Rattle.std.specs.Prelude.{◌≡◌, refl, ◌↔◌, ◌≢◌, List, [], ◌∷◌, ◌++◌, ℕ, suc, ◌+◌, ◌≤◌, ◌<◌, ltb}
 use Rattle.std.proofs.Common.{sym, ◌∙◌, arith, eq-eqb, ne_eqb}
 use Rattle.std.proofs.Math.Path.{ap}
-use Rattle.std.proofs.Math.Logic.{Iff·trans, Iff·and, Iff·rfl}
+use Rattle.std.proofs.Math.Logic.{Iff.trans, Iff.and, Iff.rfl}
 use Rattle.words.specs.Table.{tab}
 use Rattle.chain.specs.Tests.{below_true, below_false}
 use Rattle.chain.specs.Refusals.{refused, test, first, or_else, first_append, first_last, Silent, Silents, Numbered, exact_at, or_silents, silent_as}
@@ -70,14 +70,14 @@ pub record FirstTooLong (c : Chain) (k L : ℕ) : Type 0 where
 
 module _ (c : Chain) (k : ℕ) where
   pub short_silent : (i : ℕ) → Silent (length_test c k i) ↔ (F c k i ≤ most)
-  short_silent i = Iff·trans (test_silent 9 i (λ e. omega arith) _) (below_false most (F c k i))
+  short_silent i = Iff.trans (test_silent 9 i (λ e. omega arith) _) (below_false most (F c k i))
 
   pub long_says : (i L : ℕ) → (length_test c k i ≡ refused 9 L) ↔ ((most < F c k i) × (L ≡ i))
-  long_says i L = Iff·trans (test_exact 9 L i (λ e. omega arith) _) (Iff·and (below_true most (F c k i)) Iff·rfl)
+  long_says i L = Iff.trans (test_exact 9 L i (λ e. omega arith) _) (Iff.and (below_true most (F c k i)) Iff.rfl)
 
   pub length_exact : (L : ℕ) → (length_check c k ≡ refused 9 L) ↔ FirstTooLong c k L
   unfolding length_check
-  length_exact L = Iff·trans (lowest_is 9 L (λ e. omega arith) (length_test c k) (suc c.n)) (out, back)
+  length_exact L = Iff.trans (lowest_is 9 L (λ e. omega arith) (length_test c k) (suc c.n)) (out, back)
     where
       out : Lowest (length_test c k) (suc c.n) 9 L → FirstTooLong c k L
       out f =
@@ -89,7 +89,7 @@ module _ (c : Chain) (k : ℕ) where
 
   pub length_silent : Silent (length_check c k) ↔ ((i : ℕ) → i ≤ c.n → F c k i ≤ most)
   unfolding length_check
-  length_silent = Iff·trans (all_silent (length_test c k) (suc c.n)) (λ h i l. (short_silent i).0 (h i (omega arith)), λ h i l. (short_silent i).1 (h i (omega arith)))
+  length_silent = Iff.trans (all_silent (length_test c k) (suc c.n)) (λ h i l. (short_silent i).0 (h i (omega arith)), λ h i l. (short_silent i).1 (h i (omega arith)))
 
   pub length_only : Only 9 (length_check c k)
   unfolding length_check
@@ -106,7 +106,7 @@ module _ (c : Chain) (k : ℕ) where
 
   pub immediate_9 : (L : ℕ) → (immediate_refusal c k ≡ refused 9 L) ↔ (Silents (run_checks c) × FirstTooLong c k L)
   unfolding immediate_refusal
-  immediate_9 L = Iff·trans (exact_at immediate_numbers (immediate_checks c k) immediate_numbered tt 6 L (omega arith)) (Iff·and Iff·rfl (length_exact L))
+  immediate_9 L = Iff.trans (exact_at immediate_numbers (immediate_checks c k) immediate_numbered tt 6 L (omega arith)) (Iff.and Iff.rfl (length_exact L))
 
   -- every other number is said exactly when it is said of every run
   pub immediate_earlier : (N L : ℕ) → N ≢ 0 → N ≢ 9 → (immediate_refusal c k ≡ refused N L) ↔ (run_refusal c ≡ refused N L)
@@ -115,8 +115,8 @@ module _ (c : Chain) (k : ℕ) where
 
   pub immediate_accepts : Silent (immediate_refusal c k) ↔ ((Accepted c × ((i : ℕ) → i < c.n → Enough c i)) × ((i : ℕ) → i ≤ c.n → F c k i ≤ most))
   immediate_accepts =
-      Iff·trans (silent_as immediate_parts, silent_as (sym immediate_parts))
-      (Iff·trans (or_silents (run_refusal c) (length_check c k)) (Iff·and (run_accepts c) length_silent))
+      Iff.trans (silent_as immediate_parts, silent_as (sym immediate_parts))
+      (Iff.trans (or_silents (run_refusal c) (length_check c k)) (Iff.and (run_accepts c) length_silent))
 
   pub immediate_ran : Silent (immediate_refusal c k) → (immediate_answer c k).run ≡ after c (fresh_run c) (schedule c k)
   unfolding immediate_answer answered

@@ -12,7 +12,7 @@
 --   CleanStep c t s u, along   what each clean tick hands on from s to u at instant t holds of a clean run
 use Rattle.std.specs.Prelude.{◌≡◌, refl, ◌↔◌, ℕ, zero, suc, ◌+◌, ◌-◌, ◌≤◌, ◌<◌}
 use Rattle.std.proofs.Common.{sym, ap, subst, ◌∙◌, ⊎_elim, le_refl, le_trans, add-zero, arith}
-use Rattle.std.proofs.Math.Logic.{Iff·trans}
+use Rattle.std.proofs.Math.Logic.{Iff.trans}
 use Rattle.chain.specs.Refusals.{Silent}
 use Rattle.chain.specs.declared.Chain.{Chain}
 use Rattle.sizing.specs.Checks.{Enough}
@@ -60,7 +60,7 @@ module _ (c : Chain) (s : Run) (w : Whole s) (ok : (tick_answer c s).number ≡ 
 
   -- and nothing else
   pub answer_exactly : (x : Ticked) → (tick_answer c s ≡ ran_as x) ↔ OneTick c s x
-  answer_exactly x = Iff·trans (ran_same (tick_answer c s) (tick c s) x ran) (tick_exactly ticking.enough running x)
+  answer_exactly x = Iff.trans (ran_same (tick_answer c s) (tick c s) x ran) (tick_exactly ticking.enough running x)
 
   -- "overflowed at (tick, queue)", and 13 "at the first instant when": the tick is the clock
   pub answer_ends : (o : Outcome) → (o ≡ Clean → ⊥) → (tick_answer c s).outcome ≡ o → tick_of o ≡ s.clock
@@ -97,7 +97,7 @@ module _ (c : Chain) (T : ℕ) (ok : (deadline_run_answer c T).number ≡ 0) whe
 
   -- it answers what T ticks of a fresh start end with, and nothing else
   pub run_answers : (x : Ticked) → (deadline_run_answer c T ≡ ran_as x) ↔ TicksTo c T (fresh_run c) x
-  run_answers x = Iff·trans (ran_same (deadline_run_answer c T) (ticks c T (fresh_run c)) x (ran_to T (le_refl T))) (ticks_exactly run_may.0.1 T (fresh_running run_may.0.0) x)
+  run_answers x = Iff.trans (ran_same (deadline_run_answer c T) (ticks c T (fresh_run c)) x (ran_to T (le_refl T))) (ticks_exactly run_may.0.1 T (fresh_running run_may.0.0) x)
 
   -- of no ticks it answers a fresh start
   pub run_start : deadline_run_answer c 0 ≡ ran_as (clean (fresh_run c))

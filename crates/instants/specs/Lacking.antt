@@ -6,7 +6,7 @@
 --   lacking_exact, _silent     13 speaks exactly under its condition, and is silent exactly elsewhere
 use Rattle.std.specs.Prelude.{◌≡◌, refl, ◌↔◌, Bool, true, false, ◌&&◌, not, ℕ, zero, suc, ◌≤◌, ◌<◌, eqb}
 use Rattle.std.proofs.Common.{sym, ◌∙◌, true≢false, arith}
-use Rattle.std.proofs.Math.Logic.{by_cases, Iff·trans, Iff·and, Iff·rfl}
+use Rattle.std.proofs.Math.Logic.{by_cases, Iff.trans, Iff.and, Iff.rfl}
 use Rattle.std.proofs.Math.Decide.{ℕ_discrete}
 use Rattle.chain.specs.Tests.{equal_true, and_true, negated_true, negated_false}
 use Rattle.chain.specs.Refusals.{refused, Silent, Lowest, lowest_is, all_silent, test_exact, test_silent}
@@ -54,10 +54,10 @@ module _ (c : Chain) (s : Run) where
 
   -- 13 of one node
   pub lack_says : (i L : ℕ) → (lacking_test c s i ≡ refused 13 L) ↔ ((Over c s i × (Silent (index_check c i (next s i)) → ⊥)) × (L ≡ i))
-  lack_says i L = Iff·trans (test_exact 13 L i (λ e. omega arith) _) (Iff·and (and_true (over_true c s i) (negated_true (equal_true _ _))) Iff·rfl)
+  lack_says i L = Iff.trans (test_exact 13 L i (λ e. omega arith) _) (Iff.and (and_true (over_true c s i) (negated_true (equal_true _ _))) Iff.rfl)
 
   pub lack_silent : (i : ℕ) → Silent (lacking_test c s i) ↔ (Over c s i → Silent (index_check c i (next s i)))
-  lack_silent i = Iff·trans (test_silent 13 i (λ e. omega arith) _) (out, back)
+  lack_silent i = Iff.trans (test_silent 13 i (λ e. omega arith) _) (out, back)
     where
       out : (over c s i && not (eqb (index_check c i (next s i)).number 0)) ≡ false → Over c s i → Silent (index_check c i (next s i))
       out e o = by_cases (ℕ_discrete (index_check c i (next s i)).number 0) (λ z. z)
@@ -86,7 +86,7 @@ module _ (c : Chain) (s : Run) where
 
   pub lacking_exact : (L : ℕ) → (lacking c s ≡ refused 13 L) ↔ FirstLacking c s L
   unfolding lacking
-  lacking_exact L = Iff·trans (lowest_is 13 L (λ e. omega arith) (λ j. lacking_test c s (suc j)) c.n) (out, back)
+  lacking_exact L = Iff.trans (lowest_is 13 L (λ e. omega arith) (λ j. lacking_test c s (suc j)) c.n) (out, back)
     where
       out : Lowest (λ j. lacking_test c s (suc j)) c.n 13 L → FirstLacking c s L
       out f =
@@ -104,4 +104,4 @@ module _ (c : Chain) (s : Run) where
 
   pub lacking_silent : Silent (lacking c s) ↔ ((j : ℕ) → j < c.n → Over c s (suc j) → Silent (index_check c (suc j) (next s (suc j))))
   unfolding lacking
-  lacking_silent = Iff·trans (all_silent (λ j. lacking_test c s (suc j)) c.n) (λ h j l. (lack_silent (suc j)).0 (h j l), λ h j l. (lack_silent (suc j)).1 (h j l))
+  lacking_silent = Iff.trans (all_silent (λ j. lacking_test c s (suc j)) c.n) (λ h j l. (lack_silent (suc j)).0 (h j l), λ h j l. (lack_silent (suc j)).1 (h j l))

@@ -34,7 +34,7 @@
 use Rattle.std.specs.Prelude.{◌≡◌, refl, ◌↔◌, ◌≢◌, ◌⊎◌, List, [], ◌∷◌, ◌++◌, ℕ, suc, ◌≤◌, ◌<◌, ◌+◌, get_or, take, ltb, leb, eqb}
 use Rattle.std.proofs.Math.Path.{sym, ap}
 use Rattle.std.proofs.Common.{◌∙◌, inr, ⊎_elim, ne_eqb}
-use Rattle.std.proofs.Math.Logic.{Iff·trans, Iff·symm, Iff·and, Iff·rfl}
+use Rattle.std.proofs.Math.Logic.{Iff.trans, Iff.symm, Iff.and, Iff.rfl}
 use native.Mathlib.Omega.{arith}
 use Rattle.std.proofs.lemmas.Bool.{eqb-false}
 use Rattle.words.specs.Table.{tab}
@@ -58,11 +58,11 @@ use Rattle.instants.specs.declared.TickAnswer.{TickAnswer}
 
 -- 9 of the clock is said exactly when it is 1,000,000 or more, place 0
 pub clock_exact : (s : Run) (L : ℕ) → (clock_check s ≡ refused 9 L) ↔ ((1000000 ≤ s.clock) × (L ≡ 0))
-clock_exact s L = Iff·trans (test_exact 9 L 0 (λ e. omega arith) _) (Iff·and (upto_true longest s.clock) Iff·rfl)
+clock_exact s L = Iff.trans (test_exact 9 L 0 (λ e. omega arith) _) (Iff.and (upto_true longest s.clock) Iff.rfl)
 
 -- it is silent exactly below
 pub clock_silent : (s : Run) → Silent (clock_check s) ↔ (s.clock < longest)
-clock_silent s = Iff·trans (test_silent 9 0 (λ e. omega arith) _) (upto_false longest s.clock)
+clock_silent s = Iff.trans (test_silent 9 0 (λ e. omega arith) _) (upto_false longest s.clock)
 
 -- and has its own number
 pub clock_only : (s : Run) → Only 9 (clock_check s)
@@ -85,16 +85,16 @@ nine_check c s = or_else (clock_check s) (spent_check c s)
 module _ (c : Chain) (s : Run) where
   -- 9 of one node is silent where its count can grow
   pub unspent_silent : (i : ℕ) → Silent (spent_test s i) ↔ (count_at s i ≢ limit)
-  unspent_silent i = Iff·trans (test_silent 9 i (λ e. omega arith) _) (λ e. eqb-false _ _ e, λ n. ne_eqb _ _ n)
+  unspent_silent i = Iff.trans (test_silent 9 i (λ e. omega arith) _) (λ e. eqb-false _ _ e, λ n. ne_eqb _ _ n)
 
   -- and speaks where it cannot
   pub spent_says : (i L : ℕ) → (spent_test s i ≡ refused 9 L) ↔ ((count_at s i ≡ limit) × (L ≡ i))
-  spent_says i L = Iff·trans (test_exact 9 L i (λ e. omega arith) _) (Iff·and (equal_true (count_at s i) limit) Iff·rfl)
+  spent_says i L = Iff.trans (test_exact 9 L i (λ e. omega arith) _) (Iff.and (equal_true (count_at s i) limit) Iff.rfl)
 
   -- 9 of the counts is said exactly of the lowest such node
   pub spent_exact : (L : ℕ) → (spent_check c s ≡ refused 9 L) ↔ FirstSpent c s L
   unfolding spent_check
-  spent_exact L = Iff·trans (lowest_is 9 L (λ e. omega arith) (spent_test s) (suc c.n)) (out, back)
+  spent_exact L = Iff.trans (lowest_is 9 L (λ e. omega arith) (spent_test s) (suc c.n)) (out, back)
     where
       out : Lowest (spent_test s) (suc c.n) 9 L → FirstSpent c s L
       out f =
@@ -107,7 +107,7 @@ module _ (c : Chain) (s : Run) where
   -- it is silent exactly where every count can grow
   pub spent_silent : Silent (spent_check c s) ↔ ((i : ℕ) → i ≤ c.n → count_at s i ≢ limit)
   unfolding spent_check
-  spent_silent = Iff·trans (all_silent (spent_test s) (suc c.n)) (λ h i l. (unspent_silent i).0 (h i (omega arith)), λ h i l. (unspent_silent i).1 (h i (omega arith)))
+  spent_silent = Iff.trans (all_silent (spent_test s) (suc c.n)) (λ h i l. (unspent_silent i).0 (h i (omega arith)), λ h i l. (unspent_silent i).1 (h i (omega arith)))
 
   -- and has its own number
   pub spent_only : Only 9 (spent_check c s)
@@ -117,12 +117,12 @@ module _ (c : Chain) (s : Run) where
   -- both of 9 say it exactly when the clock is too large, or is not and a count cannot grow
   pub nine_exact : (L : ℕ) → (nine_check c s ≡ refused 9 L) ↔ LateOrSpent c s L
   nine_exact L =
-      Iff·trans (or_says 9 L (λ e. omega arith) (clock_check s) (spent_check c s))
-      (sum_iff (clock_exact s L) (Iff·and (clock_silent s) (spent_exact L)))
+      Iff.trans (or_says 9 L (λ e. omega arith) (clock_check s) (spent_check c s))
+      (sum_iff (clock_exact s L) (Iff.and (clock_silent s) (spent_exact L)))
 
   -- they are silent exactly where neither is the case
   pub nine_silent : Silent (nine_check c s) ↔ ((s.clock < longest) × ((i : ℕ) → i ≤ c.n → count_at s i ≢ limit))
-  nine_silent = Iff·trans (or_silents (clock_check s) (spent_check c s)) (Iff·and (clock_silent s) spent_silent)
+  nine_silent = Iff.trans (or_silents (clock_check s) (spent_check c s)) (Iff.and (clock_silent s) spent_silent)
 
   -- and have one number
   pub nine_only : Only 9 (nine_check c s)
@@ -130,11 +130,11 @@ module _ (c : Chain) (s : Run) where
 
 -- 9 of a deadline run is said exactly when T passes 1,000,000, place 0
 pub length_exact : (T L : ℕ) → (length_check T ≡ refused 9 L) ↔ ((1000000 < T) × (L ≡ 0))
-length_exact T L = Iff·trans (test_exact 9 L 0 (λ e. omega arith) _) (Iff·and (below_true longest T) Iff·rfl)
+length_exact T L = Iff.trans (test_exact 9 L 0 (λ e. omega arith) _) (Iff.and (below_true longest T) Iff.rfl)
 
 -- it is silent exactly where T does not
 pub length_silent : (T : ℕ) → Silent (length_check T) ↔ (T ≤ longest)
-length_silent T = Iff·trans (test_silent 9 0 (λ e. omega arith) _) (below_false longest T)
+length_silent T = Iff.trans (test_silent 9 0 (λ e. omega arith) _) (below_false longest T)
 
 -- and has its own number
 pub length_only : (T : ℕ) → Only 9 (length_check T)
@@ -143,14 +143,14 @@ length_only T = only_test 9 0 (ltb longest T)
 -- a number that the checks before do not have is said exactly when they are silent and those behind them say it
 said_behind : (N L : ℕ) → N ≢ 0 → (Ns : List ℕ) (ps : List Refusal) → Numbered Ns ps → Others N Ns → (rs : List Refusal) → (first (ps ++ rs) ≡ refused N L) ↔ (Silents ps × (first rs ≡ refused N L))
 unfolding first
-said_behind N L some Ns ps o a rs = rw (first_append ps rs) (Iff·trans (or_says N L some (first ps) (first rs)) (
+said_behind N L some Ns ps o a rs = rw (first_append ps rs) (Iff.trans (or_says N L some (first ps) (first rs)) (
   ⊎_elim (λ e. absurd (some (sym (number_of ((said_earlier N L some [] Ns ps o a).0 e))))) (λ h. ((first_silent ps).0 h.0, h.1)),
   λ h. inr ((first_silent ps).1 h.0, h.1),
 ))
 
 -- the checks of lists in a row are silent exactly where those of each are
 silents_row : (ps rs : List Refusal) → (Silents ps × Silents rs) ↔ Silents (ps ++ rs)
-silents_row ps rs = Iff·symm (Iff·trans (Iff·symm (first_silent (ps ++ rs))) (rw (first_append ps rs) (Iff·trans (or_silents (first ps) (first rs)) (Iff·and (first_silent ps) (first_silent rs)))))
+silents_row ps rs = Iff.symm (Iff.trans (Iff.symm (first_silent (ps ++ rs))) (rw (first_append ps rs) (Iff.trans (or_silents (first ps) (first rs)) (Iff.and (first_silent ps) (first_silent rs)))))
 
 -- a tick's own checks: 17, as a check r says it, and both of 9, behind whatever checks come before
 module _ (before : List Refusal) (r : Refusal) (c : Chain) (s : Run) where
@@ -177,8 +177,8 @@ module _ (before : List Refusal) (r : Refusal) (c : Chain) (s : Run) where
   pub tick_own_silent : Silent (first (before ++ (r ∷ clock_check s ∷ spent_check c s ∷ [])))
       ↔ (Silent (first before) × (Silent r × ((s.clock < longest) × ((i : ℕ) → i ≤ c.n → count_at s i ≢ limit))))
   tick_own_silent =
-      Iff·trans (silent_as tick_own_parts, silent_as (sym tick_own_parts))
-      (Iff·trans (or_silents (first before) _) (Iff·and Iff·rfl (Iff·trans (or_silents r _) (Iff·and Iff·rfl (nine_silent c s)))))
+      Iff.trans (silent_as tick_own_parts, silent_as (sym tick_own_parts))
+      (Iff.trans (or_silents (first before) _) (Iff.and Iff.rfl (Iff.trans (or_silents r _) (Iff.and Iff.rfl (nine_silent c s)))))
 
   -- where r has its own number
   module _ (only : Only 17 r) where
@@ -201,17 +201,17 @@ module _ (before : List Refusal) (r : Refusal) (c : Chain) (s : Run) where
       pub tick_own_17 : (L : ℕ) → Others 17 Ns → (first (before ++ (r ∷ clock_check s ∷ spent_check c s ∷ [])) ≡ refused 17 L) ↔ (Silents before × (r ≡ refused 17 L))
       unfolding Numbered
       tick_own_17 L others = rw own_joined
-          (Iff·trans (said_behind 17 L (λ e. omega arith) Ns before numbered others (r ∷ nine_check c s ∷ []))
-          (Iff·and Iff·rfl (Iff·trans (said_earlier 17 L (λ e. omega arith) (r ∷ []) (9 ∷ []) (nine_check c s ∷ []) (nine_only c s, tt) (λ e. omega arith, tt)) (says_last 17 L (λ e. omega arith) r))))
+          (Iff.trans (said_behind 17 L (λ e. omega arith) Ns before numbered others (r ∷ nine_check c s ∷ []))
+          (Iff.and Iff.rfl (Iff.trans (said_earlier 17 L (λ e. omega arith) (r ∷ []) (9 ∷ []) (nine_check c s ∷ []) (nine_only c s, tt) (λ e. omega arith, tt)) (says_last 17 L (λ e. omega arith) r))))
 
       -- 9
       pub tick_own_9 : (L : ℕ) → Others 9 Ns → (first (before ++ (r ∷ clock_check s ∷ spent_check c s ∷ [])) ≡ refused 9 L) ↔ (Silents (before ++ (r ∷ [])) × LateOrSpent c s L)
       unfolding Numbered
       tick_own_9 L others = rw own_joined
-          (Iff·trans (said_behind 9 L (λ e. omega arith) Ns before numbered others (r ∷ nine_check c s ∷ []))
-          (Iff·trans
-          (Iff·and Iff·rfl (Iff·trans (said_behind 9 L (λ e. omega arith) (17 ∷ []) (r ∷ []) (only, tt) (λ e. omega arith, tt) (nine_check c s ∷ []))
-          (Iff·and Iff·rfl (Iff·trans (says_last 9 L (λ e. omega arith) (nine_check c s)) (nine_exact c s L)))))
+          (Iff.trans (said_behind 9 L (λ e. omega arith) Ns before numbered others (r ∷ nine_check c s ∷ []))
+          (Iff.trans
+          (Iff.and Iff.rfl (Iff.trans (said_behind 9 L (λ e. omega arith) (17 ∷ []) (r ∷ []) (only, tt) (λ e. omega arith, tt) (nine_check c s ∷ []))
+          (Iff.and Iff.rfl (Iff.trans (says_last 9 L (λ e. omega arith) (nine_check c s)) (nine_exact c s L)))))
           (λ h. ((silents_row before (r ∷ [])).0 (h.0, h.1.0), h.1.1), λ h. let q = (silents_row before (r ∷ [])).1 h.0 in (q.0, (q.1, h.1)))))
 
 -- a run's own check: 9, behind whatever checks come before
@@ -224,7 +224,7 @@ module _ (before : List Refusal) (T : ℕ) where
   -- they are silent exactly where both are
   pub run_own_silent : Silent (first (before ++ (length_check T ∷ []))) ↔ (Silent (first before) × (T ≤ longest))
   run_own_silent =
-      Iff·trans (silent_as run_own_parts, silent_as (sym run_own_parts)) (Iff·trans (or_silents (first before) (length_check T)) (Iff·and Iff·rfl (length_silent T)))
+      Iff.trans (silent_as run_own_parts, silent_as (sym run_own_parts)) (Iff.trans (or_silents (first before) (length_check T)) (Iff.and Iff.rfl (length_silent T)))
 
   -- every other number is said exactly when the checks before say it
   pub run_own_earlier : (N L : ℕ) → N ≢ 0 → N ≢ 9 → (first (before ++ (length_check T ∷ [])) ≡ refused N L) ↔ (first before ≡ refused N L)
@@ -239,8 +239,8 @@ module _ (before : List Refusal) (T : ℕ) where
 
     pub run_own_9 : (L : ℕ) → Others 9 Ns → (first (before ++ (length_check T ∷ [])) ≡ refused 9 L) ↔ (Silents before × ((longest < T) × (L ≡ 0)))
     run_own_9 L others =
-        Iff·trans (said_behind 9 L (λ e. omega arith) Ns before numbered others (length_check T ∷ []))
-        (Iff·and Iff·rfl (Iff·trans (says_last 9 L (λ e. omega arith) (length_check T)) (length_exact T L)))
+        Iff.trans (said_behind 9 L (λ e. omega arith) Ns before numbered others (length_check T ∷ []))
+        (Iff.and Iff.rfl (Iff.trans (says_last 9 L (λ e. omega arith) (length_check T)) (length_exact T L)))
 
 -- the numbers of a tick's own checks, both of 9 as one, of all its checks, and of a deadline run's
 abbrev own_numbers : List ℕ
@@ -301,12 +301,12 @@ module _ (c : Chain) (s : Run) where
   -- 17
   pub tick_17 : (L : ℕ) → (tick_refusal c s ≡ refused 17 L) ↔ (Silents (run_checks c) × FirstBroken c s L)
   unfolding joined
-  tick_17 L = Iff·trans (tick_at 6 L (omega arith)) (Iff·and Iff·rfl (state_exact c s L))
+  tick_17 L = Iff.trans (tick_at 6 L (omega arith)) (Iff.and Iff.rfl (state_exact c s L))
 
   -- 9
   pub tick_9 : (L : ℕ) → (tick_refusal c s ≡ refused 9 L) ↔ (Silents (run_checks c ++ (state_check c s ∷ [])) × LateOrSpent c s L)
   unfolding joined
-  tick_9 L = Iff·trans (tick_at 7 L (omega arith)) (Iff·and Iff·rfl (nine_exact c s L))
+  tick_9 L = Iff.trans (tick_at 7 L (omega arith)) (Iff.and Iff.rfl (nine_exact c s L))
 
   -- every other number, so each of 2 to 8, is said exactly when it is said of every run
   pub tick_earlier : (N L : ℕ) → N ≢ 0 → N ≢ 17 → N ≢ 9 → (tick_refusal c s ≡ refused N L) ↔ (run_refusal c ≡ refused N L)
@@ -317,8 +317,8 @@ module _ (c : Chain) (s : Run) where
   -- a tick is not refused exactly when the chain is accepted with capacities that are enough, the state passes 17, and clock and counts can grow
   pub tick_accepts : Silent (tick_refusal c s) ↔ ((Accepted c × ((i : ℕ) → i < c.n → Enough c i)) × (StateSound c s × ((s.clock < longest) × ((i : ℕ) → i ≤ c.n → count_at s i ≢ limit))))
   tick_accepts =
-      Iff·trans (silent_as tick_parts, silent_as (sym tick_parts))
-      (Iff·trans (or_silents (run_refusal c) _) (Iff·and (run_accepts c) (Iff·trans (or_silents (state_check c s) _) (Iff·and (state_silent c s) (nine_silent c s)))))
+      Iff.trans (silent_as tick_parts, silent_as (sym tick_parts))
+      (Iff.trans (or_silents (run_refusal c) _) (Iff.and (run_accepts c) (Iff.trans (or_silents (state_check c s) _) (Iff.and (state_silent c s) (nine_silent c s)))))
 
 -- what the code of a tick asks: a tick is not refused (ticking_is)
 pub record Ticking (c : Chain) (s : Run) : Type 0 where
@@ -330,7 +330,7 @@ pub record Ticking (c : Chain) (s : Run) : Type 0 where
 
 -- it is what tick_accepts says
 pub ticking_is : (c : Chain) (s : Run) → Silent (tick_refusal c s) ↔ Ticking c s
-ticking_is c s = Iff·trans (tick_accepts c s) (
+ticking_is c s = Iff.trans (tick_accepts c s) (
   λ h. record { chain = h.0.0; enough = h.0.1; state = h.1.0; clock = h.1.1.0; countable = h.1.1.1 },
   λ k. ((k.chain, k.enough), (k.state, (k.clock, k.countable))),
 )
@@ -350,7 +350,7 @@ module _ (c : Chain) (T : ℕ) where
   -- 9
   pub deadline_run_9 : (L : ℕ) → (deadline_run_refusal c T ≡ refused 9 L) ↔ (Silents (run_checks c) × ((longest < T) × (L ≡ 0)))
   unfolding deadline_run_refusal
-  deadline_run_9 L = Iff·trans (exact_at deadline_run_numbers (deadline_run_checks c T) deadline_run_numbered tt 6 L (omega arith)) (Iff·and Iff·rfl (length_exact T L))
+  deadline_run_9 L = Iff.trans (exact_at deadline_run_numbers (deadline_run_checks c T) deadline_run_numbered tt 6 L (omega arith)) (Iff.and Iff.rfl (length_exact T L))
 
   -- every other number, so each of 2 to 8, is said exactly when it is said of every run
   pub deadline_run_earlier : (N L : ℕ) → N ≢ 0 → N ≢ 9 → (deadline_run_refusal c T ≡ refused N L) ↔ (run_refusal c ≡ refused N L)
@@ -360,8 +360,8 @@ module _ (c : Chain) (T : ℕ) where
   -- a deadline run is not refused exactly when the chain is accepted with capacities that are enough, and T is at most 1,000,000
   pub deadline_run_accepts : Silent (deadline_run_refusal c T) ↔ ((Accepted c × ((i : ℕ) → i < c.n → Enough c i)) × (T ≤ longest))
   deadline_run_accepts =
-      Iff·trans (silent_as deadline_run_parts, silent_as (sym deadline_run_parts))
-      (Iff·trans (or_silents (run_refusal c) (length_check T)) (Iff·and (run_accepts c) (length_silent T)))
+      Iff.trans (silent_as deadline_run_parts, silent_as (sym deadline_run_parts))
+      (Iff.trans (or_silents (run_refusal c) (length_check T)) (Iff.and (run_accepts c) (length_silent T)))
 
 -- the answer of a call that is not refused
 abbrev pub ran_as : Ticked → TickAnswer

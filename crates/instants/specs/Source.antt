@@ -12,7 +12,7 @@ use Rattle.std.specs.Prelude.{◌≡◌, Bool, cond, ◌↔◌, ◌≢◌, ℕ, 
 use Rattle.std.proofs.Math.Path.{refl}
 use Rattle.std.proofs.Common.{sym, ap, ◌∙◌, arith, ext_get_or}
 use Rattle.std.proofs.Math.Bool.{true, false, true≢false}
-use Rattle.std.proofs.Math.Logic.{Iff·trans}
+use Rattle.std.proofs.Math.Logic.{Iff.trans}
 use Rattle.std.specs.Int.{◌∣◌}
 use Rattle.std.proofs.Math.Nat.{dvd_iff_mod-eq-zero}
 use Rattle.chain.specs.Tests.{equal_true}
@@ -31,7 +31,7 @@ use Rattle.instants.specs.declared.Ticked.{Ticked}
 
 -- "if y divides t"
 pub divides_is : (y t : ℕ) → (divides y t ≡ true) ↔ (y ∣ t)
-divides_is y t = Iff·trans (equal_true (t % y) 0) ((dvd_iff_mod-eq-zero y).1, (dvd_iff_mod-eq-zero y).0)
+divides_is y t = Iff.trans (equal_true (t % y) 0) ((dvd_iff_mod-eq-zero y).1, (dvd_iff_mod-eq-zero y).0)
 
 -- "the source fires if y divides t"
 abbrev pub Due : Chain → Run → Type 0
@@ -50,7 +50,7 @@ module _ {c : Chain} {s : Run} (f : Filled c s) where
   some_queue = f.chain.chain.count.0
 
   full_is : (cramped c s 0 ≡ true) ↔ Full c s
-  full_is = Iff·trans (cramped_is c s 0) (λ h. h.1, λ h. (some_queue, h))
+  full_is = Iff.trans (cramped_is c s 0) (λ h. h.1, λ h. (some_queue, h))
 
   -- the three ways in which the source's step ends
   pub source_three : (P : Ticked → Type 0) → (Due c s → Full c s → P (overflowed s s.clock 0)) → (Due c s → Fits c s → P (clean (fired c s 0))) → ((Due c s → ⊥) → P (clean s)) → P (sourced c s)

@@ -10,7 +10,7 @@
 --   list_exact, _silent, _only 17 of the list speaks exactly then, at place 0, is silent exactly elsewhere, and has its own number
 use Rattle.std.specs.Prelude.{◌≡◌, ◌↔◌, ◌⊎◌, ℕ, ◌≤◌, ◌<◌, leb, ltb}
 use Rattle.std.proofs.Common.{sym, ◌∙◌, inl, inr, arith}
-use Rattle.std.proofs.Math.Logic.{⊎_elim, Iff·trans, Iff·and, Iff·rfl}
+use Rattle.std.proofs.Math.Logic.{⊎_elim, Iff.trans, Iff.and, Iff.rfl}
 use Rattle.words.specs.Table.{tab}
 use Rattle.chain.specs.Tests.{below_true, below_false, upto_true, upto_false}
 use Rattle.chain.specs.Refusals.{refused, test, first, or_else, Silent, lowest_is, all_silent, test_exact, test_silent, or_says, or_silents, Only, only_test, only_tab, only_or}
@@ -52,20 +52,20 @@ LongOrStray n l = (256 < l.count) ⊎ ((l.count ≤ 256) × Stray n l)
 
 module _ (n : ℕ) (l : Losses) where
   pub long_exact : (L : ℕ) → (long_check l ≡ refused 17 L) ↔ ((256 < l.count) × (L ≡ 0))
-  long_exact L = Iff·trans (test_exact 17 L 0 (λ e. omega arith) _) (Iff·and (below_true longest_list l.count) Iff·rfl)
+  long_exact L = Iff.trans (test_exact 17 L 0 (λ e. omega arith) _) (Iff.and (below_true longest_list l.count) Iff.rfl)
 
   pub long_silent : Silent (long_check l) ↔ (l.count ≤ 256)
-  long_silent = Iff·trans (test_silent 17 0 (λ e. omega arith) _) (below_false longest_list l.count)
+  long_silent = Iff.trans (test_silent 17 0 (λ e. omega arith) _) (below_false longest_list l.count)
 
   entry_says : (k L : ℕ) → (stray_test n l k ≡ refused 17 L) ↔ ((n ≤ (entry_at l k).queue) × (L ≡ 0))
-  entry_says k L = Iff·trans (test_exact 17 L 0 (λ e. omega arith) _) (Iff·and (upto_true n (entry_at l k).queue) Iff·rfl)
+  entry_says k L = Iff.trans (test_exact 17 L 0 (λ e. omega arith) _) (Iff.and (upto_true n (entry_at l k).queue) Iff.rfl)
 
   entry_silent : (k : ℕ) → Silent (stray_test n l k) ↔ ((entry_at l k).queue < n)
-  entry_silent k = Iff·trans (test_silent 17 0 (λ e. omega arith) _) (upto_false n (entry_at l k).queue)
+  entry_silent k = Iff.trans (test_silent 17 0 (λ e. omega arith) _) (upto_false n (entry_at l k).queue)
 
   pub stray_silent : Silent (stray_check n l) ↔ Named n l
   unfolding stray_check
-  stray_silent = Iff·trans (all_silent (stray_test n l) l.count) (λ h k m. (entry_silent k).0 (h k m), λ h k m. (entry_silent k).1 (h k m))
+  stray_silent = Iff.trans (all_silent (stray_test n l) l.count) (λ h k m. (entry_silent k).0 (h k m), λ h k m. (entry_silent k).1 (h k m))
 
   pub stray_only : Only 17 (stray_check n l)
   unfolding stray_check
@@ -91,7 +91,7 @@ module _ (n : ℕ) (l : Losses) where
   -- "a list longer than 256 or an entry that names no queue of the chain"
   pub list_exact : (L : ℕ) → (list_check n l ≡ refused 17 L) ↔ (LongOrStray n l × (L ≡ 0))
   unfolding list_check
-  list_exact L = Iff·trans (or_says 17 L (λ e. omega arith) (long_check l) (stray_check n l)) (out, back)
+  list_exact L = Iff.trans (or_says 17 L (λ e. omega arith) (long_check l) (stray_check n l)) (out, back)
     where
       out : (long_check l ≡ refused 17 L) ⊎ (Silent (long_check l) × (stray_check n l ≡ refused 17 L)) → LongOrStray n l × (L ≡ 0)
       out = ⊎_elim
@@ -103,7 +103,7 @@ module _ (n : ℕ) (l : Losses) where
 
   pub list_silent : Silent (list_check n l) ↔ ((l.count ≤ 256) × Named n l)
   unfolding list_check
-  list_silent = Iff·trans (or_silents (long_check l) (stray_check n l)) (Iff·and long_silent stray_silent)
+  list_silent = Iff.trans (or_silents (long_check l) (stray_check n l)) (Iff.and long_silent stray_silent)
 
   pub list_only : Only 17 (list_check n l)
   unfolding list_check

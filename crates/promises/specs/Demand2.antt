@@ -60,7 +60,7 @@
 use Rattle.std.specs.Prelude.{◌≡◌, refl, true, ◌↔◌, ◌≢◌, ◌⊎◌, List, [], ◌∷◌, ◌++◌, ℕ, zero, suc, ◌+◌, ◌-◌, ◌*◌, ◌/◌, ◌≤◌, ◌<◌, pos, ◌+ℤ◌, length, get_or, take, drop, replicate}
 use Rattle.std.proofs.Math.Path.{sym, ap}
 use Rattle.std.proofs.Common.{subst, ◌∙◌, arith, le-leb}
-use Rattle.std.proofs.Math.Logic.{inl, inr, ⊎_elim, Iff·symm, Iff·trans, Iff·and, Iff·rfl}
+use Rattle.std.proofs.Math.Logic.{inl, inr, ⊎_elim, Iff.symm, Iff.trans, Iff.and, Iff.rfl}
 use Rattle.std.specs.Int.{◌∣◌}
 use Rattle.std.proofs.Math.Nat.{sub-zero}
 use Rattle.ardenquill.specs.Chains.{Silents, tab, row_of, work_of, trimmed}
@@ -193,7 +193,7 @@ index_next c ok i k j l m = index_down c i k j m ∙ ap (λ (h : ℕ). index c i
 pub deadline_when : (c : Chain) (i k : ℕ)
     → ((deadline_answer c i k).number ≡ 0) ↔ ((Accepts c × ((j : ℕ) → j < c.n → Ample c j)) × (((i ≤ c.n) × (1 ≤ k)) × ((j : ℕ) → j ≤ i → index c i k j ≤ 4294967295)))
 unfolding deadline_answer answered_due
-deadline_when c i k = Iff·trans (deadline_accepts c i k) (Iff·and (may_run_is c) Iff·rfl)
+deadline_when c i k = Iff.trans (deadline_accepts c i k) (Iff.and (may_run_is c) Iff.rfl)
 
 -- it is the deadline by which a tick chooses
 pub deadline_is : (c : Chain) (i k : ℕ) → (deadline_answer c i k).number ≡ 0 → (deadline_answer c i k).due ≡ deadline c i k
@@ -221,7 +221,7 @@ deadline_next c i k asked =
 -- 01's "A fresh start begins a new history": it is accepted exactly when the chain is
 pub fresh_when : (c : Chain) → ((fresh_answer c).number ≡ 0) ↔ Accepts c
 unfolding fresh_answer runs.answered analyse_answer
-fresh_when c = Iff·rfl
+fresh_when c = Iff.rfl
 
 -- and then no node has fired, "every queue starts empty", no work is done and the clock is 0
 pub fresh_is : (c : Chain) → Accepts c → (fresh_answer c).run ≡ zero_run
@@ -259,7 +259,7 @@ module _ (c : Chain) (s : Run) (i : ℕ) where
   -- is, the state passes 17, and 9, 11 and 12 have no reason
   pub fire_when : ((fire_answer c s i).number ≡ 0) ↔ (Accepts c × (((j : ℕ) → j < c.n → Passes c s j) × Permits c s i))
   unfolding fire_answer runs.answered
-  fire_when = Iff·trans (fire_accepts c s i) (
+  fire_when = Iff.trans (fire_accepts c s i) (
     λ k. let a = (accepts_is c).1 k.0 in (a, ((passes_is c s a).0 k.1.0, (permits_is a).0 k.1.1)),
     λ k. ((accepts_is c).0 k.0, ((passes_is c s k.0).1 k.1.0, (permits_is k.0).1 k.1.1)),
   )
@@ -285,7 +285,7 @@ module _ (c : Chain) (s : Run) (i : ℕ) where
 pub immediate_when : (c : Chain) (k : ℕ)
     → Runs c k ↔ ((Accepts c × ((j : ℕ) → j < c.n → Ample c j)) × ((i : ℕ) → i ≤ c.n → F c k i ≤ 1000000))
 unfolding immediate_answer runs.answered
-immediate_when c k = Iff·trans (immediate_accepts c k) (Iff·and (may_run_is c) Iff·rfl)
+immediate_when c k = Iff.trans (immediate_accepts c k) (Iff.and (may_run_is c) Iff.rfl)
 
 module _ (c : Chain) (k : ℕ) (ran : Runs c k) where
   -- manual firing accepts each of its firings in turn
@@ -334,7 +334,7 @@ module _ (c : Chain) (k : ℕ) (ran : Runs c k) where
 -- no capacity is below the minimum, and "T at most 1,000,000"
 pub deadline_run_when : (c : Chain) (T : ℕ) → DeadlineRuns c T ↔ ((Accepts c × ((j : ℕ) → j < c.n → Ample c j)) × (T ≤ 1000000))
 unfolding deadline_run_answer outcome_of
-deadline_run_when c T = Iff·trans (deadline_run_accepts c T) (Iff·and (may_run_is c) Iff·rfl)
+deadline_run_when c T = Iff.trans (deadline_run_accepts c T) (Iff.and (may_run_is c) Iff.rfl)
 
 -- an outcome of number N at the instant t, of a queue or a node: "the first instant when", in a run of T ticks
 pub record EndsAt (c : Chain) (T N t at : ℕ) : Type 0 where
@@ -421,7 +421,7 @@ module _ (c : Chain) (s : Run) where
   pub tick_when : ((tick_answer c s).number ≡ 0)
       ↔ ((Accepts c × ((j : ℕ) → j < c.n → Ample c j)) × (((j : ℕ) → j < c.n → Passes c s j) × ((s.clock < 1000000) × ((i : ℕ) → i ≤ c.n → count_at s i ≢ 4294967295))))
   unfolding tick_answer outcome_of
-  tick_when = Iff·trans (tick_accepts c s) (
+  tick_when = Iff.trans (tick_accepts c s) (
     λ k. let m = (may_run_is c).0 k.0 in (m, ((passes_is c s m.0).0 k.1.0, k.1.1)),
     λ k. ((may_run_is c).1 k.0, ((passes_is c s k.0.0).1 k.1.0, k.1.1)),
   )
@@ -430,7 +430,7 @@ module _ (c : Chain) (s : Run) where
   pub tick_nine : Accepts c × ((j : ℕ) → j < c.n → Ample c j) → ((j : ℕ) → j < c.n → Passes c s j) → (L : ℕ)
       → (((tick_answer c s).number ≡ 9) × ((tick_answer c s).place ≡ L)) ↔ (((1000000 ≤ s.clock) × (L ≡ 0)) ⊎ ((s.clock < 1000000) × LowestOf (Spent c s) L))
   unfolding Silents tick_answer outcome_of
-  tick_nine may pass L = Iff·trans (said (tick_refusal c s) 9 L) (Iff·trans (tick_9 c s L) (
+  tick_nine may pass L = Iff.trans (said (tick_refusal c s) 9 L) (Iff.trans (tick_9 c s L) (
     λ h. ⊎_elim (λ a. inl a) (λ a. inr (a.0, record { has = (a.1.node, a.1.spent); before = λ j l t. a.1.before j l t.1 })) h.1,
     λ h. (
       silents_append (run_checks c) (state_check c s ∷ []) (run_quiet c may) ((state_silent c s).1 ((passes_is c s may.0).1 pass), tt),
@@ -453,15 +453,15 @@ module _ (c : Chain) (s : Run) where
     pub tick_overflows : (t q : ℕ) → OverflowedAt (tick_answer c s).outcome t q ↔ (((t ≡ s.clock) × (q ≡ 0)) × ((c.period ∣ s.clock) × ((line c 0).capacity < held_at s 0 + p_of c 0)))
     tick_overflows t q =
         let a : Accepted c = (accepts_is c).0 (tick_when.0 ok).0.0 in
-        Iff·trans (overflowed_is (tick_answer c s).outcome t q) (rw (capacity_is c a 0 a.chain.count.0) (one_overflows one t q))
+        Iff.trans (overflowed_is (tick_answer c s).outcome t q) (rw (capacity_is c a 0 a.chain.count.0) (one_overflows one t q))
 
     -- "13 .. when, after the source's step, an over-threshold node's deadline can't be had, place the lowest such over-threshold node"
     pub tick_lacks : (t i : ℕ) → UndatedAt (tick_answer c s).outcome t i ↔ ((t ≡ s.clock) × Lacks c s i)
-    tick_lacks t i = Iff·trans (undated_is (tick_answer c s).outcome t i) (one_lacks one t i)
+    tick_lacks t i = Iff.trans (undated_is (tick_answer c s).outcome t i) (one_lacks one t i)
 
     -- "it ends clean": exactly otherwise
     pub tick_cleans : Cleanly (tick_answer c s).outcome ↔ ((Spills c s → ⊥) × ((i : ℕ) → Lacks c s i → ⊥))
-    tick_cleans = Iff·trans (cleanly_is (tick_answer c s).outcome) (one_cleans one)
+    tick_cleans = Iff.trans (cleanly_is (tick_answer c s).outcome) (one_cleans one)
 
     -- "the state being that before the production", and of 13 "that before the source's step": a tick that overflows or has no deadline leaves the state as it was
     pub tick_ends : (Cleanly (tick_answer c s).outcome → ⊥) → (tick_answer c s).run ≡ s
@@ -511,7 +511,7 @@ run_told c T = (told (deadline_run_answer c T) (λ n. (deadline_run_empty c T n)
 -- what C's tick asks of its answer before it stores a state: true exactly of a tick that is not refused and ends clean. Of any other the state is the one handed in
 -- (tick_stays, tick_ends), so that there is nothing to store
 pub tick_stores : (c : Chain) (s : Run) → (is_clean (coded (tick_answer c s)) ≡ true) ↔ (((tick_answer c s).number ≡ 0) × Cleanly (tick_answer c s).outcome)
-tick_stores c s = Iff·trans (clean_exactly (tick_answer c s)) (Iff·and Iff·rfl (Iff·symm (cleanly_is (tick_answer c s).outcome)))
+tick_stores c s = Iff.trans (clean_exactly (tick_answer c s)) (Iff.and Iff.rfl (Iff.symm (cleanly_is (tick_answer c s).outcome)))
 
 -- "Reading a written chain file gives the chain back": a chain c that is written into lent bytes o, which become p; slots past n, of which the file has
 -- nothing, are zero in the chain that is read

@@ -24,7 +24,7 @@
 use Rattle.std.specs.Prelude.{◌≡◌, Bool, true, false, ◌↔◌, ◌≢◌, ◌⊎◌, ℕ, ◌+◌, ◌-◌, ◌*◌, ◌≤◌, ◌<◌, length, get_or}
 use Rattle.std.proofs.Math.Path.{refl, sym}
 use Rattle.std.proofs.Common.{ap, subst, ◌∙◌, inl, inr, ⊎_elim, le_refl, arith}
-use Rattle.std.proofs.Math.Logic.{by_cases, Iff·not, Iff·symm, Iff·trans, Iff·and, Iff·rfl}
+use Rattle.std.proofs.Math.Logic.{by_cases, Iff.not, Iff.symm, Iff.trans, Iff.and, Iff.rfl}
 use mathlib.Core.List.{List, [], ◌∷◌}
 use Rattle.std.specs.Int.{◌∣◌}
 use Rattle.std.proofs.Math.Nat.{mod-eq-zero_of_dvd, dvd_of_mod-eq-zero}
@@ -155,7 +155,7 @@ table_stands len at size some = (
 
 -- which is what the reader tests
 stands_is : (len at size : ℕ) → 0 < size → GoodTable len at (at + size) ↔ TableStands len at (λ i. (at ≤ i) × (i < at + size))
-stands_is len at size some = Iff·trans (Iff·and (dvd_of_mod-eq-zero 4, mod-eq-zero_of_dvd 4) Iff·rfl) (Iff·symm (table_stands len at size some))
+stands_is len at size some = Iff.trans (Iff.and (dvd_of_mod-eq-zero 4, mod-eq-zero_of_dvd 4) Iff.rfl) (Iff.symm (table_stands len at size some))
 
 -- the number and the place that a file is answered
 pub read_says : (f : List ℕ) (N L : ℕ) → (((read_answer f).number ≡ N) × ((read_answer f).place ≡ L)) ↔ (read_refusal f ≡ refused N L)
@@ -193,10 +193,10 @@ module _ (f : List ℕ) where
       tests = offset_tests (length f) (count_of f) (queues_at f) (nodes_at f)
 
       good : (P at end : ℕ) → Silent (test 3 P (bad_table (length f) at end)) ↔ GoodTable (length f) at end
-      good P at end = Iff·trans (test_silent 3 P (λ e. omega arith) _) (good_table (length f) at end)
+      good P at end = Iff.trans (test_silent 3 P (λ e. omega arith) _) (good_table (length f) at end)
 
       apart : Silent (test 3 12 (overlap (queues_at f) (queues_at f + 20 * count_of f) (nodes_at f) (nodes_at f + 4 * count_of f))) ↔ Apart
-      apart = Iff·trans (test_silent 3 12 (λ e. omega arith) _) (overlap_false (count_of f) (queues_at f) (nodes_at f))
+      apart = Iff.trans (test_silent 3 12 (λ e. omega arith) _) (overlap_false (count_of f) (queues_at f) (nodes_at f))
 
       out : Silents (length_check f ∷ count_check (count_of f) ∷ file_offsets f ∷ []) → Placed f × Apart
       out h =
@@ -324,7 +324,7 @@ bad_not len at end = (
 -- 1, "length under 20 or over 4,096, or total word differs from length", place 0
 pub read_length : (f : List ℕ) (L : ℕ)
     → (((read_answer f).number ≡ 1) × ((read_answer f).place ≡ L)) ↔ (((length f < 20) ⊎ ((4096 < length f) ⊎ (Word f 16 (length f) → ⊥))) × (L ≡ 0))
-read_length f L = Iff·trans (read_says f 1 L) (Iff·trans (read_1 f L) (Iff·and (⊎_elim (⊎_elim (λ l. inl l) (λ l. inr (inl l))) (λ ne. inr (inr (λ k. ne (word_out k)))), back) Iff·rfl))
+read_length f L = Iff.trans (read_says f 1 L) (Iff.trans (read_1 f L) (Iff.and (⊎_elim (⊎_elim (λ l. inl l) (λ l. inr (inl l))) (λ ne. inr (inr (λ k. ne (word_out k)))), back) Iff.rfl))
   where
     back : (length f < 20) ⊎ ((4096 < length f) ⊎ (Word f 16 (length f) → ⊥)) → BadLength f
     back = ⊎_elim (λ l. inl (inl l)) (⊎_elim (λ l. inl (inr l)) (λ n. by_cases (dec_lt (length f) 20) (λ l. inl (inl l)) (λ l. inr (λ e. n (word_in f 16 (length f) (omega (arith, l)) e)))))
@@ -375,7 +375,7 @@ module _ {f : List ℕ} {n y q w : ℕ} (h : Headed f n y q w) where
   pub read_count : (L : ℕ) → (((read_answer f).number ≡ 2) × ((read_answer f).place ≡ L)) ↔ (WrongCount n × (L ≡ 0))
   unfolding Silents
   read_count L = rw (← word_out h.words.count)
-      (Iff·trans (read_says f 2 L) (Iff·trans (read_2 f L) (Iff·trans (λ k. k.1, λ k. ((long_silent, tt), k)) (Iff·and (count_wrong (count_of f)) Iff·rfl))))
+      (Iff.trans (read_says f 2 L) (Iff.trans (read_2 f L) (Iff.trans (λ k. k.1, λ k. ((long_silent, tt), k)) (Iff.and (count_wrong (count_of f)) Iff.rfl))))
 
   module _ (count : RightCount n) where
     -- the tables by their bytes
@@ -388,16 +388,16 @@ module _ {f : List ℕ} {n y q w : ℕ} (h : Headed f n y q w) where
     -- 3, place "8 (queue offset, tested first), 12 (node offset, then overlap)"
     pub read_offsets : (L : ℕ) → (((read_answer f).number ≡ 3) × ((read_answer f).place ≡ L)) ↔ OffsetWrong (length f) n q w L
     unfolding Silents
-    read_offsets L = Iff·trans (read_says f 3 L) (Iff·trans (read_3 f L) (Iff·trans (λ k. k.1, λ k. ((long_silent, (few, tt)), k)) same))
+    read_offsets L = Iff.trans (read_says f 3 L) (Iff.trans (read_3 f L) (Iff.trans (λ k. k.1, λ k. ((long_silent, (few, tt)), k)) same))
       where
         few : Silent (count_check (count_of f))
         few = (count_silent (count_of f)).1 (rw (word_out h.words.count) count)
 
         no_queues : BadTable (length f) q (q + 20 * n) ↔ (TableStands (length f) q (InQueues n q) → ⊥)
-        no_queues = Iff·trans (bad_not (length f) q (q + 20 * n)) (Iff·not queues_stand)
+        no_queues = Iff.trans (bad_not (length f) q (q + 20 * n)) (Iff.not queues_stand)
 
         no_nodes : BadTable (length f) w (w + 4 * n) ↔ (TableStands (length f) w (InNodes n w) → ⊥)
-        no_nodes = Iff·trans (bad_not (length f) w (w + 4 * n)) (Iff·not nodes_stand)
+        no_nodes = Iff.trans (bad_not (length f) w (w + 4 * n)) (Iff.not nodes_stand)
 
         out : BadTables (length f) n q w L → OffsetWrong (length f) n q w L
         out = ⊎_elim (λ b. queues_wrong (no_queues.0 b.0) b.1) (λ g. ⊎_elim
@@ -466,7 +466,7 @@ module _ {f : List ℕ} {q w : ℕ} {c : Chain} (k : Laid f q w c) where
 
   -- 4, "a field out of range: y, then queue rows in order and field order, then node rows", place "byte offset of the word"
   pub read_ranges : (L : ℕ) → (((read_answer f).number ≡ 4) × ((read_answer f).place ≡ L)) ↔ FirstOutAt c q w L
-  read_ranges L = Iff·trans (read_says f 4 L) (Iff·trans (read_4 f L) (Iff·trans (λ h. h.1, λ h. (quiet, h)) (Iff·trans (Iff·symm (range_exact L (chain_of f) (queues_at f) (nodes_at f))) same)))
+  read_ranges L = Iff.trans (read_says f 4 L) (Iff.trans (read_4 f L) (Iff.trans (λ h. h.1, λ h. (quiet, h)) (Iff.trans (Iff.symm (range_exact L (chain_of f) (queues_at f) (nodes_at f))) same)))
     where
       same : (range_check (chain_of f) (queues_at f) (nodes_at f) ≡ refused 4 L) ↔ FirstOutAt c q w L
       same = rw (chain_is k, queues_at_law k, nodes_at_law k) (range_first c q w L)
@@ -474,9 +474,9 @@ module _ {f : List ℕ} {q w : ℕ} {c : Chain} (k : Laid f q w c) where
   -- 5, "c above τ, first such row", place "byte offset of c"
   pub read_order : (L : ℕ) → (((read_answer f).number ≡ 5) × ((read_answer f).place ≡ L)) ↔ (((M : ℕ) → OutAt c q w M → ⊥) × FirstAbove c q L)
   unfolding Silents
-  read_order L = Iff·trans (read_says f 5 L) (Iff·trans (read_5 f L) (Iff·trans
+  read_order L = Iff.trans (read_says f 5 L) (Iff.trans (read_5 f L) (Iff.trans
       (λ h. (h.0.1.1.1.0, (order_exact L (chain_of f) (queues_at f)).1 h.1), λ h. ((quiet.0, (quiet.1.0, (quiet.1.1.0, (h.0, tt)))), (order_exact L (chain_of f) (queues_at f)).0 h.1))
       same))
     where
       same : (Silent (range_check (chain_of f) (queues_at f) (nodes_at f)) × (order_check (chain_of f) (queues_at f) ≡ refused 5 L)) ↔ (((M : ℕ) → OutAt c q w M → ⊥) × FirstAbove c q L)
-      same = rw (chain_is k, queues_at_law k, nodes_at_law k) (Iff·and (range_silent c q w) (order_first c q L))
+      same = rw (chain_is k, queues_at_law k, nodes_at_law k) (Iff.and (range_silent c q w) (order_first c q L))

@@ -12,7 +12,7 @@
 use Rattle.std.specs.Prelude.{◌≡◌, refl, ◌↔◌, ◌⊎◌, ℕ, suc, ◌+◌, ◌*◌, ◌≤◌, ◌<◌}
 use Rattle.std.proofs.Common.{sym, ap, ◌∙◌, inl, inr, arith}
 use Rattle.std.proofs.Math.Path.{subst}
-use Rattle.std.proofs.Math.Logic.{⊎_elim, by_cases, Iff·trans, Iff·and, Iff·rfl}
+use Rattle.std.proofs.Math.Logic.{⊎_elim, by_cases, Iff.trans, Iff.and, Iff.rfl}
 use Rattle.std.proofs.Math.Decide.{dec_lt}
 use Rattle.ardenquill.specs.Chains.{refused, row_of}
 use Rattle.ardenquill.specs.Analyses.{start}
@@ -110,7 +110,7 @@ module _ (c : Chain) (s : Run) (l : Losses) (takes : Takes s l) (ok : (rec_tick_
   -- "the stopped list is outcome 15, place the queue": exactly where the list is full and a production does not fit, at the source's step or, a tick later, at a finish
   pub rec_tick_fifteen : (t q : ℕ) → FullAt (rec_tick_answer c s l).outcome t q
       ↔ ((((t ≡ s.clock) × (q ≡ 0)) × (SourceLoses c s × (256 ≤ l.count))) ⊎ ((t ≡ s.clock + 1) × FullNow c s l q))
-  rec_tick_fifteen t q = Iff·trans (full_is _ t q) (Iff·trans ends (Iff·trans (rec_full_exactly f r.listed t q) (
+  rec_tick_fifteen t q = Iff.trans (full_is _ t q) (Iff.trans ends (Iff.trans (rec_full_exactly f r.listed t q) (
     ⊎_elim (λ h. inl (h.0, source_full.0 h.1)) (λ h. inr (finish_out t q h)),
     ⊎_elim (λ h. inl (h.0, source_full.1 h.1)) (λ h. inr (finish_in t q h)),
   )))
@@ -132,11 +132,11 @@ module _ (c : Chain) (s : Run) (l : Losses) (takes : Takes s l) (ok : (rec_tick_
   -- "13 .. when, after the source's step, an over-threshold node's deadline can't be had, place the lowest such over-threshold node"; "a 257th loss at the source comes
   -- before 13"
   pub rec_tick_thirteen : (t i : ℕ) → RecUndatedAt (rec_tick_answer c s l).outcome t i ↔ ((t ≡ s.clock) × (Took c s l × LacksNow c s i))
-  rec_tick_thirteen t i = Iff·trans (rec_undated_is _ t i) (Iff·trans ends (Iff·trans (rec_lacks_exactly f r.listed t i) (Iff·and Iff·rfl (lacks_tick i))))
+  rec_tick_thirteen t i = Iff.trans (rec_undated_is _ t i) (Iff.trans ends (Iff.trans (rec_lacks_exactly f r.listed t i) (Iff.and Iff.rfl (lacks_tick i))))
 
   -- "it ends clean": exactly otherwise
   pub rec_tick_cleans : RecCleanly (rec_tick_answer c s l).outcome ↔ (Took c s l × (((q : ℕ) → FullNow c s l q → ⊥) × ((i : ℕ) → LacksNow c s i → ⊥)))
-  rec_tick_cleans = Iff·trans (rec_cleanly_is _) (Iff·trans ends (Iff·trans (rec_clean_exactly f r.listed) (out, back)))
+  rec_tick_cleans = Iff.trans (rec_cleanly_is _) (Iff.trans ends (Iff.trans (rec_clean_exactly f r.listed) (out, back)))
     where
       took : (SourceFull c s l → ⊥) → Took c s l
       took n h = by_cases (dec_lt l.count 256) (λ k. k) (λ k. absurd (n (source_full.1 (h, omega arith))))

@@ -20,7 +20,7 @@
 --   losses_alike, rec_tick_past, rec_run_past
 --                            and none of them is read
 use Rattle.std.specs.Prelude.{◌≡◌, refl, ◌↔◌, ◌≢◌, ◌⊎◌, [], ◌∷◌, ◌++◌, ℕ, suc, ◌+◌, ◌*◌, ◌≤◌, ◌<◌, length, get_or}
-use Rattle.std.proofs.Math.Logic.{inl, inr, ⊎_elim, Iff·trans, Iff·symm, Iff·and, Iff·rfl}
+use Rattle.std.proofs.Math.Logic.{inl, inr, ⊎_elim, Iff.trans, Iff.symm, Iff.and, Iff.rfl}
 use Rattle.std.proofs.Math.Decide.{ℕ_discrete, dec_le, dec_lt}
 use Rattle.std.proofs.Common.{arith, ne_eqb}
 use Rattle.ardenquill.specs.Chains.{row_of, work_of, Silents}
@@ -64,11 +64,11 @@ module _ (c : Chain) (N L : ℕ) (some : N ≢ 0) (early : N < 9) where
   pub rec_tick_begins : (s : Run) (l : Losses) → (((rec_tick_answer c s l).number ≡ N) × ((rec_tick_answer c s l).place ≡ L)) ↔ (((analyse_answer c).number ≡ N) × ((analyse_answer c).place ≡ L))
   unfolding rec_tick_answer rec_answer_of analyse_answer sized
   rec_tick_begins s l =
-      Iff·trans (said (rec_tick_refusal c s l) N L) (Iff·trans (rec_tick_earlier c s l N L some (λ e. omega arith) (λ e. omega arith)) (Iff·symm (said (analyse_refusal c) N L)))
+      Iff.trans (said (rec_tick_refusal c s l) N L) (Iff.trans (rec_tick_earlier c s l N L some (λ e. omega arith) (λ e. omega arith)) (Iff.symm (said (analyse_refusal c) N L)))
 
   pub rec_run_begins : (T : ℕ) → (((rec_run_answer c T).number ≡ N) × ((rec_run_answer c T).place ≡ L)) ↔ (((analyse_answer c).number ≡ N) × ((analyse_answer c).place ≡ L))
   unfolding rec_run_answer rec_answer_of analyse_answer sized
-  rec_run_begins T = Iff·trans (said (rec_run_refusal c T) N L) (Iff·trans (rec_run_earlier c T N L some (λ e. omega arith)) (Iff·symm (said (analyse_refusal c) N L)))
+  rec_run_begins T = Iff.trans (said (rec_run_refusal c T) N L) (Iff.trans (rec_run_earlier c T N L some (λ e. omega arith)) (Iff.symm (said (analyse_refusal c) N L)))
 
 -- so 2, 4 and 5 of them are those of the analysis
 pub rec_tick_record : (c : Chain) (s : Run) (l : Losses) → RecordChecked c (rec_tick_answer c s l).number (rec_tick_answer c s l).place
@@ -117,7 +117,7 @@ module _ (c : Chain) (s : Run) (l : Losses) where
 
   -- and that it is the lowest that does not
   broken_first : Accepts c → (L : ℕ) → FirstRecBroken c s l L ↔ LowestOf (RecFails c s l) L
-  broken_first ok L = Iff·trans (
+  broken_first ok L = Iff.trans (
     λ f. ((f.queue, rw (capacity_is c ((accepts_is c).0 ok) L f.queue) f.broken), λ j h. (rec_passes_at ok j (omega (arith, f.queue))).0 (f.before j h)),
     λ f. record {
       queue = f.0.0;
@@ -131,7 +131,7 @@ module _ (c : Chain) (s : Run) (l : Losses) where
   pub rec_tick_when : ((rec_tick_answer c s l).number ≡ 0)
       ↔ (Accepts c × ((ListPasses c l × ((j : ℕ) → j < c.n → RecPasses c s l j)) × ((s.clock < 1000000) × ((i : ℕ) → i ≤ c.n → count_at s i ≢ 4294967295))))
   unfolding rec_tick_answer rec_answer_of
-  rec_tick_when = Iff·trans (rec_tick_accepts c s l) (
+  rec_tick_when = Iff.trans (rec_tick_accepts c s l) (
     λ k. let ok : Accepts c = (accepts_is c).1 k.0 in
         (ok, (((k.1.0.short, k.1.0.named), λ j h. (rec_passes_at ok j h).0 (k.1.0.queues j h)), k.1.1)),
     λ k. ((accepts_is c).0 k.0, (record { short = k.1.0.0.0; named = k.1.0.0.1; queues = λ j h. (rec_passes_at k.0 j h).1 (k.1.0.1 j h) }, k.1.1)),
@@ -142,14 +142,14 @@ module _ (c : Chain) (s : Run) (l : Losses) where
   pub rec_tick_seventeen : (L : ℕ) → (((rec_tick_answer c s l).number ≡ 17) × ((rec_tick_answer c s l).place ≡ L))
       ↔ (Accepts c × ((((256 < l.count) ⊎ ((l.count ≤ 256) × Stray c.n l)) × (L ≡ 0)) ⊎ (ListPasses c l × LowestOf (RecFails c s l) L)))
   unfolding rec_tick_answer rec_answer_of
-  rec_tick_seventeen L = Iff·trans (said (rec_tick_refusal c s l) 17 L) (Iff·trans (rec_tick_17 c s l L) (
+  rec_tick_seventeen L = Iff.trans (said (rec_tick_refusal c s l) 17 L) (Iff.trans (rec_tick_17 c s l L) (
     λ h. let ok = (analyse_silent c).0 h.0 in (ok, ⊎_elim inl (λ a. inr (a.0, (broken_first ok L).0 a.1)) h.1),
     λ h. ((analyse_silent c).1 h.0, ⊎_elim inl (λ a. inr (a.0, (broken_first h.0 L).1 a.1)) h.1),
   ))
 
   -- the checks before 9
   before_nine : Silents (analyse_checks c ++ (rec_state_check c s l ∷ [])) ↔ (Accepts c × (ListPasses c l × ((j : ℕ) → j < c.n → RecPasses c s l j)))
-  before_nine = Iff·trans (silents_last (analyse_checks c) (rec_state_check c s l)) (
+  before_nine = Iff.trans (silents_last (analyse_checks c) (rec_state_check c s l)) (
     λ h. let ok = (analyse_silent c).0 h.0 in let r = (rec_state_silent c s l).0 h.1 in (ok, ((r.short, r.named), λ j m. (rec_passes_at ok j m).0 (r.queues j m))),
     λ h. (
       (analyse_silent c).1 h.0,
@@ -161,7 +161,7 @@ module _ (c : Chain) (s : Run) (l : Losses) where
   pub rec_tick_nine : (L : ℕ) → (((rec_tick_answer c s l).number ≡ 9) × ((rec_tick_answer c s l).place ≡ L))
       ↔ ((Accepts c × (ListPasses c l × ((j : ℕ) → j < c.n → RecPasses c s l j))) × (((1000000 ≤ s.clock) × (L ≡ 0)) ⊎ ((s.clock < 1000000) × LowestOf (Spent c s) L)))
   unfolding rec_tick_answer rec_answer_of
-  rec_tick_nine L = Iff·trans (said (rec_tick_refusal c s l) 9 L) (Iff·trans (rec_tick_9 c s l L) (Iff·and before_nine (
+  rec_tick_nine L = Iff.trans (said (rec_tick_refusal c s l) 9 L) (Iff.trans (rec_tick_9 c s l L) (Iff.and before_nine (
     ⊎_elim inl (λ a. inr (a.0, record { has = (a.1.node, a.1.spent); before = λ j m t. a.1.before j m t.1 })),
     ⊎_elim inl (λ a. inr (a.0, record { node = a.1.has.0; spent = a.1.has.1; before = λ j m e. a.1.before j m (omega (arith, a.1.has.0), e) })),
   )))
@@ -192,12 +192,12 @@ module _ (c : Chain) (T : ℕ) where
   -- exactly when the chain is accepted, whatever its capacities, and "T at most 1,000,000"
   pub rec_run_when : RecRuns c T ↔ (Accepts c × (T ≤ 1000000))
   unfolding rec_run_answer rec_answer_of
-  rec_run_when = Iff·trans (rec_run_accepts c T) (Iff·and (Iff·symm (accepts_is c)) Iff·rfl)
+  rec_run_when = Iff.trans (rec_run_accepts c T) (Iff.and (Iff.symm (accepts_is c)) Iff.rfl)
 
   -- "(else 9, place 0)"
   pub rec_run_nine : (L : ℕ) → (((rec_run_answer c T).number ≡ 9) × ((rec_run_answer c T).place ≡ L)) ↔ (Accepts c × ((1000000 < T) × (L ≡ 0)))
   unfolding rec_run_answer rec_answer_of
-  rec_run_nine L = Iff·trans (said (rec_run_refusal c T) 9 L) (Iff·trans (rec_run_9 c T L) (Iff·and (analyse_silent c) Iff·rfl))
+  rec_run_nine L = Iff.trans (said (rec_run_refusal c T) 9 L) (Iff.trans (rec_run_9 c T L) (Iff.and (analyse_silent c) Iff.rfl))
 
   -- "A refusal gives number and place, all other results zero"
   pub rec_run_empty : (rec_run_answer c T).number ≢ 0 → RecCleanly (rec_run_answer c T).outcome × (((rec_run_answer c T).run ≡ zero_run) × ((rec_run_answer c T).losses ≡ zero_losses))

@@ -6,7 +6,7 @@
 --   rec_tick_stores          and what C's recording tick asks before it stores a state
 use Rattle.std.specs.Prelude.{◌≡◌, refl, true, ◌↔◌, ◌≢◌, ◌⊎◌, List, [], ◌∷◌, ℕ, zero, suc, get_or}
 use Rattle.std.proofs.Common.{ap, inl, inr, ⊎_elim, arith}
-use Rattle.std.proofs.Math.Logic.{Iff·trans, Iff·and, Iff·rfl}
+use Rattle.std.proofs.Math.Logic.{Iff.trans, Iff.and, Iff.rfl}
 use Rattle.ardenquill.specs.Losses.{rec_tick_of, rec_at_of, rec_tick_answer, rec_run_answer}
 use Rattle.ardenquill.specs.RecFlat.{rec_kind_of, rec_coded, rec_flat, rec_moves, Moving, rec_moves_exactly}
 use Rattle.ardenquill.specs.Records.{Chain, Run, Losses, RecordOutcome, RecordClean, RecordNoDeadline, ListFull, RecordAnswer}
@@ -69,7 +69,7 @@ pub record FullAtFinish (o : RecordOutcome) : Type 0 where
 -- state and the list are those handed in (rec_tick_stays, rec_left_undated, rec_left_full), so that there is nothing to store
 pub rec_tick_stores : (c : Chain) (s : Run) (l : Losses) → (rec_moves (rec_coded (rec_tick_answer c s l)) ≡ true)
     ↔ (((rec_tick_answer c s l).number ≡ 0) × (RecCleanly (rec_tick_answer c s l).outcome ⊎ FullAtFinish (rec_tick_answer c s l).outcome))
-rec_tick_stores c s l = Iff·trans (rec_moves_exactly (rec_tick_answer c s l)) (Iff·and Iff·rfl (moves (rec_tick_answer c s l).outcome))
+rec_tick_stores c s l = Iff.trans (rec_moves_exactly (rec_tick_answer c s l)) (Iff.and Iff.rfl (moves (rec_tick_answer c s l).outcome))
   where
     moves : (o : RecordOutcome) → Moving o ↔ (RecCleanly o ⊎ FullAtFinish o)
     moves RecordClean = (λ p. inl (refl, refl), λ h. tt)

@@ -7,7 +7,7 @@
 use Rattle.std.specs.Prelude.{◌≡◌, refl, ◌↔◌, ◌≢◌, ◌⊎◌, [], ◌∷◌}
 use Rattle.std.proofs.Common.{sym, subst, ◌∙◌, eq-or-lt_of_le, arith}
 use Rattle.std.proofs.Math.Path.{ap}
-use Rattle.std.proofs.Math.Logic.{inl, inr, ⊎_elim, Iff·trans}
+use Rattle.std.proofs.Math.Logic.{inl, inr, ⊎_elim, Iff.trans}
 use Prim.Native.Nat.{ℕ, zero, suc, ◌<◌}
 use Rattle.ardenquill.specs.Chains.{refused, fine, or_else, first, Silent, or_says, or_silents, first_append, tab, tab_last}
 use Rattle.ardenquill.specs.Records.{Refusal}
@@ -34,16 +34,16 @@ lowest_as h L = (
 -- the same places, said otherwise
 pub finds_as : {r : Refusal} {N : ℕ} {P Q : ℕ → Type 0} → ((L : ℕ) → P L ↔ Q L) → Finds r N P → Finds r N Q
 finds_as h f = record {
-  says = λ L. Iff·trans (f.says L) (lowest_as h L);
-  silent = Iff·trans f.silent (λ n M q. n M ((h M).1 q), λ n M p. n M ((h M).0 p));
+  says = λ L. Iff.trans (f.says L) (lowest_as h L);
+  silent = Iff.trans f.silent (λ n M q. n M ((h M).1 q), λ n M p. n M ((h M).0 p));
 }
 
 module _ (N : ℕ) (some : N ≢ 0) where
   -- one check and then another, whose places are all higher
   pub finds_then : {r s : Refusal} {P Q : ℕ → Type 0} → ((M K : ℕ) → P M → Q K → M < K) → Finds r N P → Finds s N Q → Finds (or_else r s) N (λ L. P L ⊎ Q L)
   finds_then {r} {s} {P} {Q} rises f g = record {
-    says = λ L. Iff·trans (or_says N L some r s) (out L, back L);
-    silent = Iff·trans (or_silents r s) (
+    says = λ L. Iff.trans (or_says N L some r s) (out L, back L);
+    silent = Iff.trans (or_silents r s) (
       λ h M. ⊎_elim (f.silent.0 h.0 M) (g.silent.0 h.1 M),
       λ h. (f.silent.1 (λ M p. h M (inl p)), g.silent.1 (λ M q. h M (inr q))),
     );

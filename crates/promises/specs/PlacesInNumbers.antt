@@ -24,7 +24,7 @@
 --                            when the factory refuses a number with 14, and when it does not
 use Rattle.std.specs.Prelude.{◌≡◌, refl, ◌↔◌, ◌≢◌, ◌⊎◌, List, [], ◌∷◌, ◌++◌, ℕ, zero, suc, ◌+◌, ◌*◌, ◌≤◌, ◌<◌, length, get_or}
 use Rattle.std.proofs.Common.{ap, ◌∙◌, arith}
-use Rattle.std.proofs.Math.Logic.{inl, inr, ⊎_elim, by_cases, Iff·trans, Iff·symm, Iff·and, Iff·rfl}
+use Rattle.std.proofs.Math.Logic.{inl, inr, ⊎_elim, by_cases, Iff.trans, Iff.symm, Iff.and, Iff.rfl}
 use Rattle.std.proofs.Math.Decide.{ℕ_discrete, dec_le, dec_lt}
 use borrow.Author.Tests.{lt-leb, eq-eqb}
 use Rattle.ardenquill.specs.Chains as chains
@@ -58,12 +58,12 @@ module _ (c : Chain) where
   -- the checks of the analysis
   pub analyse_silent : Silents (analyse_checks c) ↔ Accepts c
   unfolding analyse_answer analyse_refusal sized
-  analyse_silent = Iff·symm (first_silent (analyse_checks c))
+  analyse_silent = Iff.symm (first_silent (analyse_checks c))
 
   -- and of a run
   pub checked_silent : Silents (run_checks c) ↔ MayRun c
   unfolding run_refusal
-  checked_silent = Iff·trans (Iff·symm (first_silent (run_checks c))) (Iff·trans (run_accepts c) (may_run_is c))
+  checked_silent = Iff.trans (Iff.symm (first_silent (run_checks c))) (Iff.trans (run_accepts c) (may_run_is c))
 
 -- "Manual firing, runs and deadline questions check the analysis first", and runs and deadline questions 8: each of these numbers they answer exactly where a chain that
 -- is checked for a run is answered it, with its place
@@ -71,22 +71,22 @@ module _ (c : Chain) (N L : ℕ) (some : N ≢ 0) (early : N < 9) where
   -- an immediate run
   pub immediate_begins : (k : ℕ) → (((immediate_answer c k).number ≡ N) × ((immediate_answer c k).place ≡ L)) ↔ (((run_answer c).number ≡ N) × ((run_answer c).place ≡ L))
   unfolding immediate_answer runs.answered run_answer sized
-  immediate_begins k = Iff·trans (said (immediate_refusal c k) N L) (Iff·trans (immediate_earlier c k N L some (λ e. omega arith)) (Iff·symm (said (run_refusal c) N L)))
+  immediate_begins k = Iff.trans (said (immediate_refusal c k) N L) (Iff.trans (immediate_earlier c k N L some (λ e. omega arith)) (Iff.symm (said (run_refusal c) N L)))
 
   -- a deadline question
   pub deadline_begins : (i k : ℕ) → (((deadline_answer c i k).number ≡ N) × ((deadline_answer c i k).place ≡ L)) ↔ (((run_answer c).number ≡ N) × ((run_answer c).place ≡ L))
   unfolding deadline_answer answered_due run_answer sized
-  deadline_begins i k = Iff·trans (said (deadline_refusal c i k) N L) (Iff·trans (deadline_earlier c i k L N some early) (Iff·symm (said (run_refusal c) N L)))
+  deadline_begins i k = Iff.trans (said (deadline_refusal c i k) N L) (Iff.trans (deadline_earlier c i k L N some early) (Iff.symm (said (run_refusal c) N L)))
 
   -- a tick
   pub tick_begins : (s : Run) → (((tick_answer c s).number ≡ N) × ((tick_answer c s).place ≡ L)) ↔ (((run_answer c).number ≡ N) × ((run_answer c).place ≡ L))
   unfolding tick_answer outcome_of run_answer sized
-  tick_begins s = Iff·trans (said (tick_refusal c s) N L) (Iff·trans (tick_earlier c s N L some (λ e. omega arith) (λ e. omega arith)) (Iff·symm (said (run_refusal c) N L)))
+  tick_begins s = Iff.trans (said (tick_refusal c s) N L) (Iff.trans (tick_earlier c s N L some (λ e. omega arith) (λ e. omega arith)) (Iff.symm (said (run_refusal c) N L)))
 
   -- a deadline run
   pub deadline_run_begins : (T : ℕ) → (((deadline_run_answer c T).number ≡ N) × ((deadline_run_answer c T).place ≡ L)) ↔ (((run_answer c).number ≡ N) × ((run_answer c).place ≡ L))
   unfolding deadline_run_answer outcome_of run_answer sized
-  deadline_run_begins T = Iff·trans (said (deadline_run_refusal c T) N L) (Iff·trans (deadline_run_earlier c T N L some (λ e. omega arith)) (Iff·symm (said (run_refusal c) N L)))
+  deadline_run_begins T = Iff.trans (said (deadline_run_refusal c T) N L) (Iff.trans (deadline_run_earlier c T N L some (λ e. omega arith)) (Iff.symm (said (run_refusal c) N L)))
 
 -- so 2, 4 and 5 of them are those of the analysis
 module _ (c : Chain) where
@@ -109,7 +109,7 @@ module _ (c : Chain) where
   -- a chain that is checked for a run is not refused exactly where none of 2 to 8 has a reason
   pub checked_when : ((run_answer c).number ≡ 0) ↔ MayRun c
   unfolding run_answer sized
-  checked_when = Iff·trans (run_accepts c) (may_run_is c)
+  checked_when = Iff.trans (run_accepts c) (may_run_is c)
 
   -- and then it is answered its analysis
   pub checked_analysis : (run_answer c).number ≡ 0 → (run_answer c).analysis ≡ (analyse_answer c).analysis
@@ -123,7 +123,7 @@ TooSmall c j = (j < c.n) × (((row_of c j).capacity ≢ 0) × ((row_of c j).capa
 -- 8: place "lowest queue"
 pub checked_eight : (c : Chain) (L : ℕ) → (((run_answer c).number ≡ 8) × ((run_answer c).place ≡ L)) ↔ (Accepts c × LowestOf (TooSmall c) L)
 unfolding run_answer sized
-checked_eight c L = Iff·trans (said (run_refusal c) 8 L) (Iff·trans (run_8 c L) (
+checked_eight c L = Iff.trans (said (run_refusal c) 8 L) (Iff.trans (run_8 c L) (
   λ h. let ok : Accepts c = (analyse_silent c).0 h.0 in (ok, out ((accepts_is c).0 ok) h.1),
   λ h. ((analyse_silent c).1 h.0, back ((accepts_is c).0 h.0) h.1),
 ))
@@ -193,7 +193,7 @@ Fails c s j = (j < c.n) × (Passes c s j → ⊥)
 module _ (c : Chain) (s : Run) where
   -- the lowest queue that does not pass
   broken_first : Accepts c → (L : ℕ) → FirstBroken c s L ↔ LowestOf (Fails c s) L
-  broken_first ok L = Iff·trans (
+  broken_first ok L = Iff.trans (
     λ f. ((f.queue, rw (capacity_is c ((accepts_is c).0 ok) L f.queue) f.broken), λ j l. (passes_at c s ok j (omega (arith, f.queue))).0 (f.before j l)),
     λ f. record {
       queue = f.0.0;
@@ -205,7 +205,7 @@ module _ (c : Chain) (s : Run) where
   -- 17: place "lowest queue", of a manual firing
   pub fire_seventeen : (i L : ℕ) → (((fire_answer c s i).number ≡ 17) × ((fire_answer c s i).place ≡ L)) ↔ (Accepts c × LowestOf (Fails c s) L)
   unfolding fire_answer runs.answered
-  fire_seventeen i L = Iff·trans (said (fire_refusal c s i) 17 L) (Iff·trans (fire_17 c s i L) (
+  fire_seventeen i L = Iff.trans (said (fire_refusal c s i) 17 L) (Iff.trans (fire_17 c s i L) (
     λ h. let ok = (analyse_silent c).0 h.0 in (ok, (broken_first ok L).0 h.1),
     λ h. ((analyse_silent c).1 h.0, (broken_first h.0 L).1 h.1),
   ))
@@ -213,7 +213,7 @@ module _ (c : Chain) (s : Run) where
   -- and of a tick, "after 8"
   pub tick_seventeen : (L : ℕ) → (((tick_answer c s).number ≡ 17) × ((tick_answer c s).place ≡ L)) ↔ (MayRun c × LowestOf (Fails c s) L)
   unfolding tick_answer outcome_of
-  tick_seventeen L = Iff·trans (said (tick_refusal c s) 17 L) (Iff·trans (tick_17 c s L) (
+  tick_seventeen L = Iff.trans (said (tick_refusal c s) 17 L) (Iff.trans (tick_17 c s L) (
     λ h. let may = (checked_silent c).0 h.0 in (may, (broken_first may.0 L).0 h.1),
     λ h. ((checked_silent c).1 h.0, (broken_first h.0.0 L).1 h.1),
   ))
@@ -231,7 +231,7 @@ Cramped c s i = (i < c.n) × ((line c i).capacity < held_at s i + p_of c i)
 module _ (c : Chain) (s : Run) (i : ℕ) where
   -- the checks before 9
   before_nine : Silents (analyse_checks c ++ (state_check c s ∷ [])) ↔ (Accepts c × PassesAll c s)
-  before_nine = Iff·trans (silents_last (analyse_checks c) (state_check c s)) (
+  before_nine = Iff.trans (silents_last (analyse_checks c) (state_check c s)) (
     λ h. let ok = (analyse_silent c).0 h.0 in (ok, (passes_is c s ok).0 ((state_silent c s).0 h.1)),
     λ h. ((analyse_silent c).1 h.0, (state_silent c s).1 ((passes_is c s h.0).1 h.1)),
   )
@@ -239,12 +239,12 @@ module _ (c : Chain) (s : Run) (i : ℕ) where
   -- 9 is silent
   unspent : Silent (count_check c s i) ↔ (Spent c s i → ⊥)
   unspent = by_cases (dec_le i c.n)
-      (λ l. Iff·trans (count_silent c s i l) (λ n h. n h.1, λ n e. n (l, e)))
+      (λ l. Iff.trans (count_silent c s i l) (λ n h. n h.1, λ n e. n (l, e)))
       (λ n. (λ z h. n h.0, λ h. simp (lt-leb i c.n (omega arith))))
 
   -- the checks before 11
   before_eleven : Silents (analyse_checks c ++ (state_check c s ∷ count_check c s i ∷ [])) ↔ ((Accepts c × PassesAll c s) × (Spent c s i → ⊥))
-  before_eleven = Iff·trans (silents_last (analyse_checks c ++ (state_check c s ∷ [])) (count_check c s i)) (Iff·and before_nine unspent)
+  before_eleven = Iff.trans (silents_last (analyse_checks c ++ (state_check c s ∷ [])) (count_check c s i)) (Iff.and before_nine unspent)
 
   -- two ways to say that N_i is below threshold
   starved_is : (Over c s i → ⊥) ↔ Starved c s i
@@ -256,7 +256,7 @@ module _ (c : Chain) (s : Run) (i : ℕ) where
 
   -- 11 is silent, of a node that there is
   fed_enough : i ≤ c.n → Silent (over_check c s i) ↔ (Starved c s i → ⊥)
-  fed_enough l = Iff·trans (over_silent c s i) (
+  fed_enough l = Iff.trans (over_silent c s i) (
     λ o h. starved_is.1 h o.1,
     λ n. (l, by_cases (over? i) (λ o. o) (λ m. absurd (n (starved_is.0 m)))),
   )
@@ -267,26 +267,26 @@ module _ (c : Chain) (s : Run) (i : ℕ) where
 
   -- the checks before 12
   before_twelve : i ≤ c.n → Silents (analyse_checks c ++ (state_check c s ∷ count_check c s i ∷ over_check c s i ∷ [])) ↔ (((Accepts c × PassesAll c s) × (Spent c s i → ⊥)) × (Starved c s i → ⊥))
-  before_twelve l = Iff·trans (silents_last (analyse_checks c ++ (state_check c s ∷ count_check c s i ∷ [])) (over_check c s i)) (Iff·and before_eleven (fed_enough l))
+  before_twelve l = Iff.trans (silents_last (analyse_checks c ++ (state_check c s ∷ count_check c s i ∷ [])) (over_check c s i)) (Iff.and before_eleven (fed_enough l))
 
   module _ (L : ℕ) where
     -- 9: "with the node as place once its count is 4,294,967,295, tested before 11 and 12", and after 17
     pub fire_nine : (((fire_answer c s i).number ≡ 9) × ((fire_answer c s i).place ≡ L)) ↔ ((Accepts c × PassesAll c s) × (Spent c s i × (L ≡ i)))
     unfolding fire_answer runs.answered
-    fire_nine = Iff·trans (said (fire_refusal c s i) 9 L) (Iff·trans (fire_9 c s i L) (Iff·and before_nine Iff·rfl))
+    fire_nine = Iff.trans (said (fire_refusal c s i) 9 L) (Iff.trans (fire_9 c s i L) (Iff.and before_nine Iff.rfl))
 
     -- 11: "no such node, .. or node not over threshold", place "node"
     pub fire_eleven : (((fire_answer c s i).number ≡ 11) × ((fire_answer c s i).place ≡ L)) ↔ (((Accepts c × PassesAll c s) × (Spent c s i → ⊥)) × (((c.n < i) ⊎ Starved c s i) × (L ≡ i)))
     unfolding fire_answer runs.answered
-    fire_eleven = Iff·trans (said (fire_refusal c s i) 11 L) (Iff·trans (fire_11 c s i L) (Iff·and before_eleven (Iff·and (
+    fire_eleven = Iff.trans (said (fire_refusal c s i) 11 L) (Iff.trans (fire_11 c s i L) (Iff.and before_eleven (Iff.and (
       ⊎_elim (λ l. inl l) (λ n. inr (starved_is.0 n)),
       ⊎_elim (λ l. inl l) (λ h. inr (starved_is.1 h)),
-    ) Iff·rfl)))
+    ) Iff.rfl)))
 
     -- 12: "a manual firing would pass a capacity", place "queue"; N_i fills queue i
     pub fire_twelve : (((fire_answer c s i).number ≡ 12) × ((fire_answer c s i).place ≡ L)) ↔ ((((Accepts c × PassesAll c s) × (Spent c s i → ⊥)) × (Starved c s i → ⊥)) × (Cramped c s i × (L ≡ i)))
     unfolding fire_answer runs.answered
-    fire_twelve = Iff·trans (said (fire_refusal c s i) 12 L) (Iff·trans (fire_12 c s i L) (
+    fire_twelve = Iff.trans (said (fire_refusal c s i) 12 L) (Iff.trans (fire_12 c s i L) (
       λ h.
           let l : i < c.n = h.1.0.0 in
           let q = (before_twelve (omega arith)).0 h.0 in
@@ -299,7 +299,7 @@ module _ (c : Chain) (s : Run) (i : ℕ) where
 -- 14: "no such factory chain", place "number asked": there are three, 0 to 2
 pub factory_fourteen : (k L : ℕ) → (((factory_answer k).number ≡ 14) × ((factory_answer k).place ≡ L)) ↔ ((2 < k) × (L ≡ k))
 unfolding factory_answer chains.answered
-factory_fourteen k L = Iff·trans (said (factory_refusal k) 14 L) (factory_exact L k)
+factory_fourteen k L = Iff.trans (said (factory_refusal k) 14 L) (factory_exact L k)
 
 -- and every other number is answered with its chain
 pub factory_when : (k : ℕ) → ((factory_answer k).number ≡ 0) ↔ (k ≤ 2)

@@ -22,7 +22,7 @@
 use Rattle.std.specs.Prelude.{◌≡◌, ◌↔◌, ◌≢◌, ◌⊎◌, [], ◌∷◌}
 use Rattle.std.proofs.Math.Path.{refl, ap}
 use Rattle.std.proofs.Common.{sym, subst, ◌∙◌, arith}
-use Rattle.std.proofs.Math.Logic.{inl, inr, ⊎_elim, by_cases, Iff·trans, Iff·symm, Iff·rfl}
+use Rattle.std.proofs.Math.Logic.{inl, inr, ⊎_elim, by_cases, Iff.trans, Iff.symm, Iff.rfl}
 use Prim.Native.Nat.{ℕ, zero, suc, ◌+◌, ◌*◌, ◌/◌, ◌≤◌, ◌<◌, ◌∣◌}
 use Rattle.std.proofs.Math.Nat.{mul-div_cancel_left, mul-div_cancel', dvd-mul_right_of_dvd, dvd_antisymm, pos_of_dvd_of_pos}
 use Rattle.std.proofs.Math.Decide.{dec_le}
@@ -233,7 +233,7 @@ chain_silent c = sound_is c 20 (20 + 20 * c.n)
 -- 6: "some x or y of a rate is above 4,294,967,295", place "lowest node", where 2, 4 and 5 have no reason
 pub analyse_six : (c : Chain) (L : ℕ) → (((analyse_answer c).number ≡ 6) × ((analyse_answer c).place ≡ L)) ↔ (GoodRecord c × LowestOf (RatePasses c) L)
 unfolding analyse_answer sized
-analyse_six c L = Iff·trans (said (analyse_refusal c) 6 L) (Iff·trans (analyse_6 c L) (
+analyse_six c L = Iff.trans (said (analyse_refusal c) 6 L) (Iff.trans (analyse_6 c L) (
   λ h. let s : Sound c = (chain_silent c).0 h.0 in ((good_is c).0 s, (lowest_is c s L).0 h.1),
   λ h. let s : Sound c = (good_is c).1 h.0 in ((chain_silent c).1 s, (lowest_is c s L).1 h.1),
 ))
@@ -241,7 +241,7 @@ analyse_six c L = Iff·trans (said (analyse_refusal c) 6 L) (Iff·trans (analyse
 -- 7: "overloaded", place 0, where 2, 4, 5 and 6 have no reason; busy that is exactly y_n is accepted
 pub analyse_seven : (c : Chain) (L : ℕ) → (((analyse_answer c).number ≡ 7) × ((analyse_answer c).place ≡ L)) ↔ ((GoodRecord c × ((i : ℕ) → RatePasses c i → ⊥)) × (Overloaded c × (L ≡ 0)))
 unfolding analyse_answer sized Silents
-analyse_seven c L = Iff·trans (said (analyse_refusal c) 7 L) (Iff·trans (analyse_7 c L) (
+analyse_seven c L = Iff.trans (said (analyse_refusal c) 7 L) (Iff.trans (analyse_7 c L) (
   λ h.
       let quiet = silents_parts (chain_checks c) (rate_check c ∷ []) h.0 in
       let s : Sound c = (chain_silent c).0 quiet.0 in
@@ -253,7 +253,7 @@ analyse_seven c L = Iff·trans (said (analyse_refusal c) 7 L) (Iff·trans (analy
 
 -- "a chain it doesn't refuse is accepted": exactly one that none of 2, 4, 5, 6 and 7 has a reason to refuse
 pub accepts_when : (c : Chain) → Accepts c ↔ ((GoodRecord c × ((i : ℕ) → RatePasses c i → ⊥)) × (Overloaded c → ⊥))
-accepts_when c = Iff·trans (accepts_is c) (
+accepts_when c = Iff.trans (accepts_is c) (
   λ a. (((good_is c).0 a.chain, (rates_are c a.chain).0 a.rates), λ o. omega (arith, (overload_is c a.chain).1 o, a.load)),
   λ h.
       let s : Sound c = (good_is c).1 h.0.0 in
@@ -294,17 +294,17 @@ module _ (c : Chain) (N L : ℕ) (some : N ≢ 0) (early : N < 8) where
   -- a chain that is checked for a run
   pub checked_begins : (((run_answer c).number ≡ N) × ((run_answer c).place ≡ L)) ↔ (((analyse_answer c).number ≡ N) × ((analyse_answer c).place ≡ L))
   unfolding run_answer analyse_answer sized
-  checked_begins = Iff·trans (said (run_refusal c) N L) (Iff·trans (run_earlier c L N some (λ e. omega arith)) (Iff·symm (said (analyse_refusal c) N L)))
+  checked_begins = Iff.trans (said (run_refusal c) N L) (Iff.trans (run_earlier c L N some (λ e. omega arith)) (Iff.symm (said (analyse_refusal c) N L)))
 
   -- a fresh start
   pub fresh_begins : (((fresh_answer c).number ≡ N) × ((fresh_answer c).place ≡ L)) ↔ (((analyse_answer c).number ≡ N) × ((analyse_answer c).place ≡ L))
   unfolding fresh_answer runs.answered analyse_answer sized
-  fresh_begins = Iff·rfl
+  fresh_begins = Iff.rfl
 
   -- a manual firing
   pub fire_begins : (s : Run) (i : ℕ) → (((fire_answer c s i).number ≡ N) × ((fire_answer c s i).place ≡ L)) ↔ (((analyse_answer c).number ≡ N) × ((analyse_answer c).place ≡ L))
   unfolding fire_answer runs.answered analyse_answer sized
-  fire_begins s i = Iff·trans (said (fire_refusal c s i) N L) (Iff·trans (fire_earlier c s i L N some (omega arith)) (Iff·symm (said (analyse_refusal c) N L)))
+  fire_begins s i = Iff.trans (said (fire_refusal c s i) N L) (Iff.trans (fire_earlier c s i L N some (omega arith)) (Iff.symm (said (analyse_refusal c) N L)))
 
 -- and so 2, 4 and 5: "A chain handed in as a record passes checks 2, 4, 5 again"
 module _ (c : Chain) where

@@ -20,7 +20,7 @@
 --                            (RatesInNumbers and PlacesInNumbers: -begins, -record)
 use Rattle.std.specs.Prelude.{◌≡◌, refl, ◌↔◌, ◌≢◌, ◌⊎◌, List, [], ◌∷◌, length, get_or}
 use Rattle.std.proofs.Common.{inl, inr, ⊎_elim, add-zero, arith}
-use Rattle.std.proofs.Math.Logic.{by_cases, Iff·symm, Iff·trans, Iff·and, Iff·rfl}
+use Rattle.std.proofs.Math.Logic.{by_cases, Iff.symm, Iff.trans, Iff.and, Iff.rfl}
 use Prim.Native.Nat.{ℕ, zero, suc, ◌+◌, ◌*◌, ◌≤◌, ◌<◌}
 use Rattle.std.proofs.Math.Decide.{ℕ_discrete}
 use Rattle.ardenquill.specs.Chains.{Out, In, outside_true, outside_false, sum_iff, refused, or_else, first, Silent, Silents, or_says, or_silents}
@@ -108,11 +108,11 @@ four e = omega arith
 -- 4 of one field
 field_finds : (p least most v : ℕ) → Finds (out_of_range (field p least most v)) 4 (λ L. (L ≡ p) × Out least most v)
 field_finds p least most v = record {
-  says = λ L. Iff·trans (test_exact 4 L p four _) (
+  says = λ L. Iff.trans (test_exact 4 L p four _) (
     λ h. record { has = (h.1, (outside_true least most v).0 h.0); before = λ M l k. omega (arith, k.0, h.1) },
     λ h. ((outside_true least most v).1 h.has.1, h.has.0),
   );
-  silent = Iff·trans (test_silent 4 p four _) (Iff·trans (outside_false least most v) (λ i M k. ⊎_elim (λ l. omega (arith, i)) (λ l. omega (arith, i)) k.1, back));
+  silent = Iff.trans (test_silent 4 p four _) (Iff.trans (outside_false least most v) (λ i M k. ⊎_elim (λ l. omega (arith, i)) (λ l. omega (arith, i)) k.1, back));
 }
   where
     back : ((M : ℕ) → (M ≡ p) × Out least most v → ⊥) → In least most v
@@ -205,8 +205,8 @@ module _ (c : Chain) (q w : ℕ) where
 
   -- 4, the tables standing anywhere, says the first word out of its range
   pub range_first : (L : ℕ) → (range_check c q w ≡ refused 4 L) ↔ FirstOutAt c q w L
-  range_first L = rw parts_are (Iff·trans (or_says 4 L four period_check (or_else queues_check nodes_check))
-      (Iff·trans (sum_iff Iff·rfl (Iff·and Iff·rfl (or_says 4 L four queues_check nodes_check))) (out, back)))
+  range_first L = rw parts_are (Iff.trans (or_says 4 L four period_check (or_else queues_check nodes_check))
+      (Iff.trans (sum_iff Iff.rfl (Iff.and Iff.rfl (or_says 4 L four queues_check nodes_check))) (out, back)))
     where
       in_range : Silent period_check → PeriodOut c → ⊥
       in_range z p = period_finds.silent.0 z 4 (refl, p)
@@ -227,7 +227,7 @@ module _ (c : Chain) (q w : ℕ) where
 
   -- and is silent exactly where there is none
   pub range_silent : Silent (range_check c q w) ↔ ((L : ℕ) → OutAt c q w L → ⊥)
-  range_silent = rw parts_are (Iff·trans (or_silents period_check (or_else queues_check nodes_check)) (Iff·trans (Iff·and Iff·rfl (or_silents queues_check nodes_check)) (out, back)))
+  range_silent = rw parts_are (Iff.trans (or_silents period_check (or_else queues_check nodes_check)) (Iff.trans (Iff.and Iff.rfl (or_silents queues_check nodes_check)) (out, back)))
     where
       out : Silent period_check × (Silent queues_check × Silent nodes_check) → (L : ℕ) → OutAt c q w L → ⊥
       out h L (period_out e p) = period_finds.silent.0 h.0 L (e, p)
@@ -246,12 +246,12 @@ above_is c q L = (
 
 -- 5, the queue table standing anywhere, says the first such row
 pub order_first : (c : Chain) (q L : ℕ) → (order_check c q ≡ refused 5 L) ↔ FirstAbove c q L
-order_first c q L = Iff·trans (order_exact L c q) (above_is c q L)
+order_first c q L = Iff.trans (order_exact L c q) (above_is c q L)
 
 -- and is silent exactly where there is none
 order_silent : (c : Chain) (q : ℕ) → Silent (order_check c q) ↔ ((i : ℕ) → i < c.n → (row_of c i).consume ≤ (row_of c i).threshold)
 unfolding order_check
-order_silent c q = Iff·trans (all_silent (λ i. overdrawn (row_of c i) (q + 20 * i)) c.n) (
+order_silent c q = Iff.trans (all_silent (λ i. overdrawn (row_of c i) (q + 20 * i)) c.n) (
   λ h i l. (row_silent (row_of c i) (q + 20 * i)).0 (h i l),
   λ h i l. (row_silent (row_of c i) (q + 20 * i)).1 (h i l),
 )
@@ -259,7 +259,7 @@ order_silent c q = Iff·trans (all_silent (λ i. overdrawn (row_of c i) (q + 20 
 -- a sound chain, its tables standing anywhere
 pub fine_is : (c : Chain) (q w : ℕ) → Sound c ↔ (RightCount c.n × Fine c q w)
 unfolding Silents
-fine_is c q w = Iff·trans (Iff·symm (sound_is c q w)) (
+fine_is c q w = Iff.trans (Iff.symm (sound_is c q w)) (
   λ h. ((count_silent c.n).0 h.0, record { ranges = (range_silent c q w).0 h.1.0; order = (order_silent c q).0 h.1.1.0 }),
   λ h. ((count_silent c.n).1 h.0, ((range_silent c q w).1 h.1.ranges, ((order_silent c q).1 h.1.order, tt))),
 )
@@ -295,7 +295,7 @@ packed_finds c = rw (parts_are c 20 w)
 
 -- "n is 0" for "below 1"
 pub count_wrong : (n : ℕ) → Out 1 16 n ↔ WrongCount n
-count_wrong n = sum_iff (λ l. omega arith, λ e. omega arith) Iff·rfl
+count_wrong n = sum_iff (λ l. omega arith, λ e. omega arith) Iff.rfl
 
 module _ (c : Chain) where
   -- what says 2, 4 and 5 as the record's own checks do
@@ -305,10 +305,10 @@ module _ (c : Chain) where
       → RecordChecked c r.number r.place
   unfolding Silents
   checked_by r says-2 says-4 says-5 = record {
-    two = λ L. Iff·trans (said r 2 L) (Iff·trans (says-2 L) (Iff·and (count_wrong c.n) Iff·rfl));
-    four = λ L. Iff·trans (said r 4 L) (Iff·trans (says-4 L)
-        (Iff·and (λ h. (count_silent c.n).0 h.0, λ h. ((count_silent c.n).1 h, tt)) (Iff·trans (Iff·symm (range_exact L c 20 w)) ((packed_finds c).says L))));
-    five = λ L. Iff·trans (said r 5 L) (Iff·trans (says-5 L) (
+    two = λ L. Iff.trans (said r 2 L) (Iff.trans (says-2 L) (Iff.and (count_wrong c.n) Iff.rfl));
+    four = λ L. Iff.trans (said r 4 L) (Iff.trans (says-4 L)
+        (Iff.and (λ h. (count_silent c.n).0 h.0, λ h. ((count_silent c.n).1 h, tt)) (Iff.trans (Iff.symm (range_exact L c 20 w)) ((packed_finds c).says L))));
+    five = λ L. Iff.trans (said r 5 L) (Iff.trans (says-5 L) (
       λ h. ((count_silent c.n).0 h.0.0, ((range_silent c 20 w).0 h.0.1.0, (above_is c 20 L).0 h.1)),
       λ h. (((count_silent c.n).1 h.0, ((range_silent c 20 w).1 h.1.0, tt)), (above_is c 20 L).1 h.1.1),
     ));
@@ -320,9 +320,9 @@ module _ (c : Chain) where
   -- and a call that answers these numbers, with their places, exactly where such a call does
   pub checked_as : {N P M Q : ℕ} → ((K L : ℕ) → K ≢ 0 → K < 8 → ((M ≡ K) × (Q ≡ L)) ↔ ((N ≡ K) × (P ≡ L))) → RecordChecked c N P → RecordChecked c M Q
   checked_as h k = record {
-    two = λ L. Iff·trans (h 2 L (λ e. omega arith) (omega arith)) (k.two L);
-    four = λ L. Iff·trans (h 4 L (λ e. omega arith) (omega arith)) (k.four L);
-    five = λ L. Iff·trans (h 5 L (λ e. omega arith) (omega arith)) (k.five L);
+    two = λ L. Iff.trans (h 2 L (λ e. omega arith) (omega arith)) (k.two L);
+    four = λ L. Iff.trans (h 4 L (λ e. omega arith) (omega arith)) (k.four L);
+    five = λ L. Iff.trans (h 5 L (λ e. omega arith) (omega arith)) (k.five L);
   }
 
   -- and such a call says none of the three exactly where the count is right and all is fine
@@ -364,5 +364,5 @@ module _ (c : Chain) where
   -- 10, "lent output shorter than what would be written", place "bytes needed"
   pub write_room : (o p : List ℕ) (a : LengthAnswer) → Output (write_refusal c (length o)) (packed c) o p a
       → (L : ℕ) → ((a.number ≡ 10) × (a.place ≡ L)) ↔ (GoodRecord c × ((length o < 20 + 24 * c.n) × (L ≡ 20 + 24 * c.n)))
-  write_room o p a v L = rw v.answer (Iff·trans (said (write_refusal c (length o)) 10 L)
-      (Iff·trans (write_10 c (length o) L) (Iff·and (Iff·trans (sound_is c 20 (20 + 20 * c.n)) (good_is c)) Iff·rfl)))
+  write_room o p a v L = rw v.answer (Iff.trans (said (write_refusal c (length o)) 10 L)
+      (Iff.trans (write_10 c (length o) L) (Iff.and (Iff.trans (sound_is c 20 (20 + 20 * c.n)) (good_is c)) Iff.rfl)))

@@ -16,7 +16,7 @@
 use Rattle.std.specs.Prelude.{◌≡◌, ◌↔◌, ◌⊎◌}
 use Rattle.std.proofs.Math.Path.{refl, sym, ap, subst}
 use Rattle.std.proofs.Common.{◌∙◌}
-use Rattle.std.proofs.Math.Logic.{by_cases, Iff·trans, Iff·and, Iff·rfl}
+use Rattle.std.proofs.Math.Logic.{by_cases, Iff.trans, Iff.and, Iff.rfl}
 use Prim.Native.Nat.{ℕ, zero, suc, ◌+◌, ◌-◌, ◌*◌, ◌/◌, ◌≤◌, ◌<◌}
 use Rattle.std.proofs.Math.Decide.{ℕ_discrete, dec_le, dec_lt}
 use native.Mathlib.Omega.{arith}
@@ -84,7 +84,7 @@ module _ (c : Chain) (k : ℕ) where
   -- "Refusal 9 when some count would pass 1,000,000, place the lowest such node"; the source's is k, so more than 1,000,000 of it are 9, place 0
   pub immediate_nine : (L : ℕ) → (((immediate_answer c k).number ≡ 9) × ((immediate_answer c k).place ≡ L)) ↔ (MayRun c × LowestOf (CountPasses c k) L)
   unfolding immediate_answer runs.answered count_some
-  immediate_nine L = Iff·trans (said (immediate_refusal c k) 9 L) (Iff·trans (immediate_9 c k L) (Iff·and (checked_silent c) (
+  immediate_nine L = Iff.trans (said (immediate_refusal c k) 9 L) (Iff.trans (immediate_9 c k L) (Iff.and (checked_silent c) (
     λ f. record { has = record { node = f.node; of = count_some L; above = f.above }; before = λ j l p. (few j p.node).0 (f.before j l) p },
     λ f. record {
       node = f.has.node;
@@ -95,12 +95,12 @@ module _ (c : Chain) (k : ℕ) where
 
   -- and it runs exactly where no check has a reason
   pub immediate_runs : Runs c k ↔ (MayRun c × ((i : ℕ) → CountPasses c k i → ⊥))
-  immediate_runs = Iff·trans (immediate_when c k) (Iff·and Iff·rfl (λ h i p. (few i p.node).0 (h i p.node) p, λ h i l. (few i l).1 (h i)))
+  immediate_runs = Iff.trans (immediate_when c k) (Iff.and Iff.rfl (λ h i p. (few i p.node).0 (h i p.node) p, λ h i l. (few i l).1 (h i)))
 
 -- "T at most 1,000,000 (else 9, place 0)"
 pub deadline_run_nine : (c : Chain) (T L : ℕ) → (((deadline_run_answer c T).number ≡ 9) × ((deadline_run_answer c T).place ≡ L)) ↔ (MayRun c × ((1000000 < T) × (L ≡ 0)))
 unfolding deadline_run_answer outcome_of
-deadline_run_nine c T L = Iff·trans (said (deadline_run_refusal c T) 9 L) (Iff·trans (deadline_run_9 c T L) (Iff·and (checked_silent c) Iff·rfl))
+deadline_run_nine c T L = Iff.trans (said (deadline_run_refusal c T) 9 L) (Iff.trans (deadline_run_9 c T L) (Iff.and (checked_silent c) Iff.rfl))
 
 -- "(k−1)×y for N_0, else N_(i−1)'s deadline for index ((k−1)×c+B)/p rounded down, plus 1": the index that is asked of N_i, and each one node further down
 pub data IndexAt (c : Chain) (i k : ℕ) : ℕ → ℕ → Type 0 where
@@ -181,12 +181,12 @@ module _ (c : Chain) (i k L : ℕ) where
   -- 11's "no such node, firing index 0", place "node"
   pub deadline_eleven : (((deadline_answer c i k).number ≡ 11) × ((deadline_answer c i k).place ≡ L)) ↔ (MayRun c × (((c.n < i) ⊎ (k ≡ 0)) × (L ≡ i)))
   unfolding deadline_answer answered_due
-  deadline_eleven = Iff·trans (said (deadline_refusal c i k) 11 L) (Iff·trans (deadline_11 c i k L) (Iff·and (checked_silent c) Iff·rfl))
+  deadline_eleven = Iff.trans (said (deadline_refusal c i k) 11 L) (Iff.trans (deadline_11 c i k L) (Iff.and (checked_silent c) Iff.rfl))
 
   -- 13: "a deadline index passes 4,294,967,295", place "node whose index it is"
   pub deadline_thirteen : (((deadline_answer c i k).number ≡ 13) × ((deadline_answer c i k).place ≡ L)) ↔ ((MayRun c × ((i ≤ c.n) × (1 ≤ k))) × PassesFirst c i k L)
   unfolding deadline_answer answered_due
-  deadline_thirteen = Iff·trans (said (deadline_refusal c i k) 13 L) (Iff·trans (deadline_13 c i k L) (
+  deadline_thirteen = Iff.trans (said (deadline_refusal c i k) 13 L) (Iff.trans (deadline_13 c i k L) (
     λ h.
         let q = (silents_last (run_checks c) (ask_check c i k)).0 h.0 in
         let may = (checked_silent c).0 q.0 in
@@ -197,7 +197,7 @@ module _ (c : Chain) (i k L : ℕ) where
 
 -- and a question is answered exactly where no check has a reason
 pub deadline_answered : (c : Chain) (i k : ℕ) → ((deadline_answer c i k).number ≡ 0) ↔ ((MayRun c × ((i ≤ c.n) × (1 ≤ k))) × ((j : ℕ) → IndexPasses c i k j → ⊥))
-deadline_answered c i k = Iff·trans (deadline_when c i k) (
+deadline_answered c i k = Iff.trans (deadline_when c i k) (
   λ h.
       let own = had c h.0.0 i k h.1.0.0 in
       ((h.0, h.1.0), λ j p. let l = (index_only c h.0.0 i k h.1.0.0 p.of.is).0 in (own j l).0 (h.1.1 j l) p),

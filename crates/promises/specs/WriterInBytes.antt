@@ -9,7 +9,7 @@
 use Rattle.std.specs.Prelude.{◌≡◌, ◌↔◌, List, [], ◌∷◌, ◌++◌, ℕ, zero, suc, ◌+◌, ◌-◌, ◌*◌, ◌/◌, ◌^◌, ◌≤◌, ◌<◌, length, get_or, take, drop}
 use Rattle.std.proofs.Math.Path.{sym}
 use Rattle.std.proofs.Common.{ap, ◌∙◌, mod-lt, arith, length-append, length-drop, get_or-append-add, get_or-drop, take_at}
-use Rattle.std.proofs.Math.Logic.{Iff·trans, Iff·and, Iff·rfl}
+use Rattle.std.proofs.Math.Logic.{Iff.trans, Iff.and, Iff.rfl}
 use Rattle.std.proofs.Math.ListN.{get_or-append}
 use Rattle.ardenquill.specs.Chains.{Silent, row_of, work_of, none, slot_used, trimmed, Sound}
 use Rattle.ardenquill.specs.Files.{bytes_of, bytes_length, word_at_law, read_answer, packed_length, words, packed, packed_length_law, write_refusal, write_accepts, write_fine, Output, output_fine, read_of_write}
@@ -105,7 +105,7 @@ module _ (c : Chain) (s : Sound c) where
 -- "The writer checks 2, 4, 5, 10": a chain is written exactly when no word of it is refused and there is room
 pub write_when : (c : Chain) (o p : List ℕ) (a : LengthAnswer) → Output (write_refusal c (length o)) (packed c) o p a
     → (a.number ≡ 0) ↔ (GoodRecord c × (20 + 24 * c.n ≤ length o))
-write_when c o p a v = Iff·trans (output_silent v) (Iff·trans (write_accepts c (length o)) (Iff·and (good_is c) Iff·rfl))
+write_when c o p a v = Iff.trans (output_silent v) (Iff.trans (write_accepts c (length o)) (Iff.and (good_is c) Iff.rfl))
 
 -- "the writer writes only that": a chain c that is written into lent bytes o, which become p, and not refused
 pub write_exactly : (c : Chain) (o p : List ℕ) (a : LengthAnswer) → Output (write_refusal c (length o)) (packed c) o p a → a.number ≡ 0

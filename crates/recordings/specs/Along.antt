@@ -20,7 +20,7 @@
 --   rec_run_by_ticks           so the run of T ticks answers what they do
 use Rattle.std.specs.Prelude.{◌≡◌, refl, ◌↔◌, ℕ, zero, suc, ◌+◌, ◌-◌, ◌≤◌, ◌<◌, length}
 use Rattle.std.proofs.Common.{sym, ap, subst, ◌∙◌, ⊎_elim, le_refl, le_trans, arith}
-use Rattle.std.proofs.Math.Logic.{Iff·trans}
+use Rattle.std.proofs.Math.Logic.{Iff.trans}
 use Rattle.chain.specs.Refusals.{Silent}
 use Rattle.chain.specs.declared.Chain.{Chain}
 use Rattle.sizing.specs.Accepted.{Accepted}
@@ -80,7 +80,7 @@ module _ (c : Chain) (s : Run) (l : Losses) (w : Whole s) (long : length l.entri
 
   -- and nothing else
   pub rec_answer_exactly : (x : Recorded) → (rec_tick_answer c s l ≡ rec_ran_as x) ↔ RecOneTick c s l x
-  rec_answer_exactly x = Iff·trans (ran_same (rec_tick_answer c s l) (rec_tick c s l) x rec_answer_ran) (rec_tick_exactly (recording_filled rec_answer_of_law) rec_answer_of_law.listed x)
+  rec_answer_exactly x = Iff.trans (ran_same (rec_tick_answer c s l) (rec_tick c s l) x rec_answer_ran) (rec_tick_exactly (recording_filled rec_answer_of_law) rec_answer_of_law.listed x)
 
   -- "13 at the first instant when", and 15 at the instant of the loss that it does not take
   pub rec_answer_ends : (o : RecordOutcome) → (o ≡ Clean → ⊥) → (rec_tick_answer c s l).outcome ≡ o → rec_begins o ≡ s.clock
@@ -116,7 +116,7 @@ module _ (c : Chain) (T : ℕ) (ok : (rec_run_answer c T).number ≡ 0) where
   pub rec_run_answers : (x : Recorded) → (rec_run_answer c T ≡ rec_ran_as x) ↔ RecTicksTo c T (fresh_run c) empty_losses x
   rec_run_answers x =
       let fresh = fresh_recording rec_run_may.0 in
-      Iff·trans (ran_same (rec_run_answer c T) (rec_ticks c T (fresh_run c) empty_losses) x (rec_ran_to T (le_refl T))) (rec_ticks_exactly T (recording_filled fresh) fresh.listed x)
+      Iff.trans (ran_same (rec_run_answer c T) (rec_ticks c T (fresh_run c) empty_losses) x (rec_ran_to T (le_refl T))) (rec_ticks_exactly T (recording_filled fresh) fresh.listed x)
 
   -- of no ticks it answers a fresh start
   pub rec_run_start : rec_run_answer c 0 ≡ rec_ran_as (rec_clean (fresh_run c) empty_losses)
@@ -178,7 +178,7 @@ module _ (c : Chain) (T : ℕ) (ok : (rec_run_answer c T).number ≡ 0) where
   -- "the first instant when"
   pub rec_run_ends : (o : RecordOutcome) → (o ≡ Clean → ⊥) → ((rec_run_answer c T).outcome ≡ o) ↔ RecEnds c T o
   rec_run_ends o n =
-      Iff·trans (answered_ends answered (λ a. a.outcome ≡ o) (λ a e z. n (sym e ∙ z)) (rec_begins o) (λ t l h e. clock_of t l h o n e))
+      Iff.trans (answered_ends answered (λ a. a.outcome ≡ o) (λ a e z. n (sym e ∙ z)) (rec_begins o) (λ t l h e. clock_of t l h o n e))
       (λ h. record { before = h.0; cleanly = h.1.0; says = h.1.1 }, λ k. (k.before, (k.cleanly, k.says)))
 
   -- what each clean tick hands on, from a fresh start, holds of a clean run

@@ -19,7 +19,7 @@
 --                              a tick that does not find the list full leaves one, and so do so many
 use Rattle.std.specs.Prelude.{◌≡◌, ◌↔◌, ◌⊎◌, List, ℕ, suc, ◌+◌, ◌*◌, ◌≤◌, ◌<◌, get_or, eqb, leb, ltb}
 use Rattle.std.proofs.Common.{sym, ap, ap₂, ◌∙◌, ⊎_elim, add-zero, arith, eq-eqb}
-use Rattle.std.proofs.Math.Logic.{Iff·trans, Iff·and}
+use Rattle.std.proofs.Math.Logic.{Iff.trans, Iff.and}
 use Rattle.words.specs.Table.{tab, tab_alike}
 use Rattle.chain.specs.Tests.{sum_iff}
 use Rattle.chain.specs.Refusals.{refused, fine, test, first, or_else, Silent, first_fine, or_says, or_silents, Only, only_or}
@@ -90,15 +90,15 @@ module _ (c : Chain) (s : Run) (l : Losses) where
       ↔ ((LongOrStray c.n l × (L ≡ 0)) ⊎ (((l.count ≤ 256) × Named c.n l) × FirstRecBroken c s l L))
   unfolding rec_state_check rec_queues_check
   rec_state_exact L =
-      Iff·trans (or_says 17 L (λ e. omega arith) (list_check c.n l) (rec_queues_check c s l))
-      (sum_iff (list_exact c.n l L) (Iff·and (list_silent c.n l) (Iff·trans (queues_exact c s (supplied c s) (rec_accounted c s l) L)
+      Iff.trans (or_says 17 L (λ e. omega arith) (list_check c.n l) (rec_queues_check c s l))
+      (sum_iff (list_exact c.n l L) (Iff.and (list_silent c.n l) (Iff.trans (queues_exact c s (supplied c s) (rec_accounted c s l) L)
       (λ f. record { queue = f.queue; broken = f.broken; before = f.before }, λ f. record { queue = f.queue; broken = f.broken; before = f.before }))))
 
   pub rec_state_silent : Silent (rec_state_check c s l) ↔ RecSound c s l
   unfolding rec_state_check rec_queues_check
   rec_state_silent =
-      Iff·trans (or_silents (list_check c.n l) (rec_queues_check c s l))
-      (Iff·trans (Iff·and (list_silent c.n l) (queues_silent c s (supplied c s) (rec_accounted c s l)))
+      Iff.trans (or_silents (list_check c.n l) (rec_queues_check c s l))
+      (Iff.trans (Iff.and (list_silent c.n l) (queues_silent c s (supplied c s) (rec_accounted c s l)))
       (λ h. record { short = h.0.0; named = h.0.1; queues = h.1 }, λ r. ((r.short, r.named), r.queues)))
 
   -- where it is silent it names no place
@@ -171,7 +171,7 @@ pub rec_state_words : (c : Chain) (s : Run) (l : Losses) → Silent (rec_state_c
     ↔ (((l.count ≤ 256) × ((k : ℕ) → k < l.count → (get_or l.entries k (record { tick = 0; queue = 0; tokens = 0 })).queue < c.n))
     × ((i : ℕ) → i < c.n → ((start (row_of c i) + (row_of c i).produce * count_at s i ≡ held_at s i + (row_of c i).consume * count_at s (suc i) + lost l i)
     × (held_at s i ≤ capacity_of (row_of c i))) × (done_at s i < work_of c i)))
-rec_state_words c s l = Iff·trans (rec_state_silent c s l) (λ r. ((r.short, r.named), r.queues), λ h. record { short = h.0.0; named = h.0.1; queues = h.1 })
+rec_state_words c s l = Iff.trans (rec_state_silent c s l) (λ r. ((r.short, r.named), r.queues), λ h. record { short = h.0.0; named = h.0.1; queues = h.1 })
 
 -- and no queue below the one that it names breaks any of them
 pub rec_state_lowest : (c : Chain) (s : Run) (l : Losses) (L : ℕ) → rec_state_check c s l ≡ refused 17 L → (j : ℕ) → j < L

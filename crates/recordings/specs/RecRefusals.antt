@@ -21,7 +21,7 @@
 --   rec_run_ran, _refused      what a recording run answers
 use Rattle.std.specs.Prelude.{◌≡◌, ◌↔◌, ◌≢◌, ◌⊎◌, List, [], ◌∷◌, ◌++◌, ℕ, ◌≤◌, ◌<◌}
 use Rattle.std.proofs.Math.Path.{sym}
-use Rattle.std.proofs.Math.Logic.{Iff·trans, Iff·and, Iff·rfl}
+use Rattle.std.proofs.Math.Logic.{Iff.trans, Iff.and, Iff.rfl}
 use Rattle.std.proofs.Common.{arith, ne_eqb}
 use Rattle.chain.specs.Refusals.{refused, fine, or_else, first_fine, Silent, Silents, Numbered, Others, number_of, said_earlier}
 use Rattle.chain.specs.declared.Refusal.{Refusal}
@@ -78,8 +78,8 @@ module _ (c : Chain) (s : Run) (l : Losses) where
       ↔ (Silents (analyse_checks c) × ((LongOrStray c.n l × (L ≡ 0)) ⊎ (((l.count ≤ 256) × Named c.n l) × FirstRecBroken c s l L)))
   unfolding rec_tick_refusal
   rec_tick_17 L =
-      Iff·trans (tick_own_17 (analyse_checks c) (rec_state_check c s l) c s (rec_state_only c s l) analyse_numbers (analyse_numbered c) L (analyse_others 17 (omega arith)))
-      (Iff·and Iff·rfl (rec_state_exact c s l L))
+      Iff.trans (tick_own_17 (analyse_checks c) (rec_state_check c s l) c s (rec_state_only c s l) analyse_numbers (analyse_numbered c) L (analyse_others 17 (omega arith)))
+      (Iff.and Iff.rfl (rec_state_exact c s l L))
 
   -- 9
   pub rec_tick_9 : (L : ℕ) → (rec_tick_refusal c s l ≡ refused 9 L) ↔ (Silents (analyse_checks c ++ (rec_state_check c s l ∷ [])) × LateOrSpent c s L)
@@ -98,7 +98,7 @@ module _ (c : Chain) (s : Run) (l : Losses) where
   -- a recording tick is not refused exactly when the chain is accepted, state and list pass 17, and clock and counts can grow
   pub rec_tick_accepts : Silent (rec_tick_refusal c s l) ↔ (Accepted c × (RecSound c s l × ((s.clock < longest) × ((i : ℕ) → i ≤ c.n → count_at s i ≢ limit))))
   unfolding rec_tick_refusal analyse_refusal
-  rec_tick_accepts = Iff·trans (tick_own_silent (analyse_checks c) (rec_state_check c s l) c s) (Iff·and (analyse_accepts c) (Iff·and (rec_state_silent c s l) Iff·rfl))
+  rec_tick_accepts = Iff.trans (tick_own_silent (analyse_checks c) (rec_state_check c s l) c s) (Iff.and (analyse_accepts c) (Iff.and (rec_state_silent c s l) Iff.rfl))
 
 -- what the code of a recording tick asks: it is not refused (rec_ticking_is)
 pub record RecTicking (c : Chain) (s : Run) (l : Losses) : Type 0 where
@@ -109,7 +109,7 @@ pub record RecTicking (c : Chain) (s : Run) (l : Losses) : Type 0 where
 
 -- it is what rec_tick_accepts says
 pub rec_ticking_is : (c : Chain) (s : Run) (l : Losses) → Silent (rec_tick_refusal c s l) ↔ RecTicking c s l
-rec_ticking_is c s l = Iff·trans (rec_tick_accepts c s l) (
+rec_ticking_is c s l = Iff.trans (rec_tick_accepts c s l) (
   λ h. record { chain = h.0; sound = h.1.0; clock = h.1.1.0; countable = h.1.1.1 },
   λ k. (k.chain, (k.sound, (k.clock, k.countable))),
 )
@@ -142,7 +142,7 @@ module _ (c : Chain) (T : ℕ) where
   -- a recording run is not refused exactly when the chain is accepted, its capacities being what they are, and T is at most 1,000,000
   pub rec_run_accepts : Silent (rec_run_refusal c T) ↔ (Accepted c × (T ≤ longest))
   unfolding rec_run_refusal analyse_refusal
-  rec_run_accepts = Iff·trans (run_own_silent (analyse_checks c) T) (Iff·and (analyse_accepts c) Iff·rfl)
+  rec_run_accepts = Iff.trans (run_own_silent (analyse_checks c) T) (Iff.and (analyse_accepts c) Iff.rfl)
 
 -- the answer of a call that is not refused
 abbrev pub rec_ran_as : Recorded → RecordAnswer

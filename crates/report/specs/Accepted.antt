@@ -7,7 +7,7 @@
 use Rattle.std.specs.Prelude.{◌≡◌, true, ◌↔◌, ◌≢◌, List, ◌++◌, ℕ, ◌≤◌, length, drop}
 use Rattle.std.proofs.Math.Path.{refl, sym}
 use Rattle.std.proofs.Common.{◌∙◌, arith}
-use Rattle.std.proofs.Math.Logic.{Iff·trans}
+use Rattle.std.proofs.Math.Logic.{Iff.trans}
 use Rattle.chain.specs.Tests.{below_false}
 use Rattle.chain.specs.Refusals.{fine, Silent, silent_as, first_fine, or_left, or_right, or_silents, test_silent}
 use Rattle.chain.specs.Sound.{sound}
@@ -23,7 +23,7 @@ use Rattle.report.specs.Checks.{report_text, report_checks, size_refusal, report
 
 module _ (f : List ℕ) (room : ℕ) where
   fits : Silent (room_check (length (report_text f)) room) ↔ (length (report_text f) ≤ room)
-  fits = Iff·trans (test_silent 10 _ (λ e. omega arith) _) (below_false room (length (report_text f)))
+  fits = Iff.trans (test_silent 10 _ (λ e. omega arith) _) (below_false room (length (report_text f)))
 
   pub report_accepts : Silent (report_refusal f room) ↔ (AcceptedFile f × (Accepted (chain_of f) × (length (report_text f) ≤ room)))
   unfolding size_refusal

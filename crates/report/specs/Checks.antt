@@ -8,7 +8,7 @@
 --   report_parts           the reader speaks first, then 6 and 7, then 10
 use Rattle.std.specs.Prelude.{◌≡◌, ◌↔◌, List, [], ◌∷◌, ◌++◌, ℕ, ◌<◌, length, get_or, take}
 use Rattle.std.proofs.Common.{ap, ◌∙◌, arith}
-use Rattle.std.proofs.Math.Logic.{Iff·trans, Iff·and, Iff·rfl, true-and}
+use Rattle.std.proofs.Math.Logic.{Iff.trans, Iff.and, Iff.rfl, true-and}
 use Rattle.chain.specs.Tests.{Out}
 use Rattle.chain.specs.Refusals.{Silents, Numbered, exact_at, refused, fine, first, or_else, first_append, numbered_append}
 use Rattle.chain.specs.Checks.{count_check, fields, FirstOut, FirstOver, count_exact, range_exact, order_exact}
@@ -52,28 +52,28 @@ module _ (f : List ℕ) (room L : ℕ) where
 
   pub report_1 : (report_refusal f room ≡ refused 1 L) ↔ (BadLength f × (L ≡ 0))
   unfolding Silents
-  report_1 = Iff·trans (report_at 0 (omega arith)) (Iff·trans true-and (length_exact L f))
+  report_1 = Iff.trans (report_at 0 (omega arith)) (Iff.trans true-and (length_exact L f))
 
   pub report_2 : (report_refusal f room ≡ refused 2 L) ↔ (Silents (length_check f ∷ []) × (Out 1 16 (count_of f) × (L ≡ 0)))
-  report_2 = Iff·trans (report_at 1 (omega arith)) (Iff·and Iff·rfl (count_exact L (count_of f)))
+  report_2 = Iff.trans (report_at 1 (omega arith)) (Iff.and Iff.rfl (count_exact L (count_of f)))
 
   pub report_3 : (report_refusal f room ≡ refused 3 L) ↔ (Silents (length_check f ∷ count_check (count_of f) ∷ []) × BadTables (length f) (count_of f) (queues_at f) (nodes_at f) L)
-  report_3 = Iff·trans (report_at 2 (omega arith)) (Iff·and Iff·rfl (offset_exact L (length f) (count_of f) (queues_at f) (nodes_at f)))
+  report_3 = Iff.trans (report_at 2 (omega arith)) (Iff.and Iff.rfl (offset_exact L (length f) (count_of f) (queues_at f) (nodes_at f)))
 
   pub report_4 : (report_refusal f room ≡ refused 4 L) ↔ (Silents (length_check f ∷ count_check (count_of f) ∷ file_offsets f ∷ []) × FirstOut (fields (chain_of f) (queues_at f) (nodes_at f)) L)
-  report_4 = Iff·trans (report_at 3 (omega arith)) (Iff·and Iff·rfl (range_exact L (chain_of f) (queues_at f) (nodes_at f)))
+  report_4 = Iff.trans (report_at 3 (omega arith)) (Iff.and Iff.rfl (range_exact L (chain_of f) (queues_at f) (nodes_at f)))
 
   pub report_5 : (report_refusal f room ≡ refused 5 L) ↔ (Silents (length_check f ∷ count_check (count_of f) ∷ file_offsets f ∷ file_range f ∷ []) × FirstOver (chain_of f) (queues_at f) L)
-  report_5 = Iff·trans (report_at 4 (omega arith)) (Iff·and Iff·rfl (order_exact L (chain_of f) (queues_at f)))
+  report_5 = Iff.trans (report_at 4 (omega arith)) (Iff.and Iff.rfl (order_exact L (chain_of f) (queues_at f)))
 
   pub report_6 : (report_refusal f room ≡ refused 6 L) ↔ (Silents (read_checks f) × FirstTooLarge (chain_of f) L)
-  report_6 = Iff·trans (report_at 5 (omega arith)) (Iff·and Iff·rfl (rate_exact (chain_of f) L))
+  report_6 = Iff.trans (report_at 5 (omega arith)) (Iff.and Iff.rfl (rate_exact (chain_of f) L))
 
   pub report_7 : (report_refusal f room ≡ refused 7 L) ↔ (Silents (read_checks f ++ (rate_check (chain_of f) ∷ [])) × ((cycle_of (chain_of f) < busy_of (chain_of f)) × (L ≡ 0)))
-  report_7 = Iff·trans (report_at 6 (omega arith)) (Iff·and Iff·rfl (load_exact (chain_of f) L))
+  report_7 = Iff.trans (report_at 6 (omega arith)) (Iff.and Iff.rfl (load_exact (chain_of f) L))
 
   pub report_10 : (report_refusal f room ≡ refused 10 L) ↔ (Silents (read_checks f ++ size_checks (chain_of f)) × ((room < length (report_text f)) × (L ≡ length (report_text f))))
-  report_10 = Iff·trans (report_at 7 (omega arith)) (Iff·and Iff·rfl (room_exact L (length (report_text f)) room))
+  report_10 = Iff.trans (report_at 7 (omega arith)) (Iff.and Iff.rfl (room_exact L (length (report_text f)) room))
 
 -- 6 and 7 of the chain that the file says
 unfoldable pub size_refusal : List ℕ → Refusal

@@ -7,7 +7,7 @@
 --   report_headed   a report with anything behind it begins with it
 use Rattle.std.specs.Prelude.{◌≡◌, refl, Bool, true, false, ◌&&◌, ◌↔◌, List, [], ◌∷◌, ◌++◌, ℕ, eqb, length, get_or, take, drop}
 use Rattle.std.proofs.Common.{sym, ap, ap₂, true≢false, arith, eq-eqb, eqb-true}
-use Rattle.std.proofs.Math.Logic.{Iff·trans}
+use Rattle.std.proofs.Math.Logic.{Iff.trans}
 use Rattle.chain.specs.Tests.{and_true}
 use Rattle.sizing.specs.declared.Analysis.{Analysis}
 use Rattle.reporttext.specs.Text.{heading, heading_length, text_of}
@@ -22,7 +22,7 @@ pub begins_true : (s t : List ℕ) → (begins s t ≡ true) ↔ (take (length s
 unfolding begins
 begins_true [] t = (λ e. refl, λ e. refl)
 begins_true (a ∷ s) [] = (λ e. absurd (true≢false (sym e)), λ e. absurd (omega (arith, ap length e)))
-begins_true (a ∷ s) (b ∷ t) = Iff·trans (and_true (λ e. eqb-true a b e, λ e. eq-eqb a b e) (begins_true s t)) (
+begins_true (a ∷ s) (b ∷ t) = Iff.trans (and_true (λ e. eqb-true a b e, λ e. eq-eqb a b e) (begins_true s t)) (
   λ h. ap₂ ◌∷◌ (sym h.0) h.1,
   λ e. (sym (ap (λ (l : List ℕ). get_or l 0 0) e), ap (λ (l : List ℕ). drop 1 l) e),
 )

@@ -11,7 +11,7 @@
 --   busy_fits, cycle_fits    the load
 use Rattle.std.specs.Prelude.{◌≡◌, refl, Bool, true, false, cond, ◌↔◌, ℕ, zero, suc, ◌-◌, ◌≤◌, ◌<◌, ltb, pos, negsuc, nat_abs}
 use Rattle.std.proofs.Common.{sym, ap, ◌∙◌, le_trans, arith, ltb-true}
-use Rattle.std.proofs.Math.Logic.{Iff·trans, Iff·and, Iff·rfl}
+use Rattle.std.proofs.Math.Logic.{Iff.trans, Iff.and, Iff.rfl}
 use Rattle.chain.specs.Refusals.{refused, first, Silent, Silents, silent_as, first_silent, first_fine, or_silents}
 use Rattle.chain.specs.Checks.{chain_refusal}
 use Rattle.chain.specs.Sound.{Sound, sound}
@@ -43,8 +43,8 @@ size_accepts c = (out, λ a. (a.chain, (first_silent (size_checks c)).1 ((rates_
 
 pub analyse_accepts : (c : Chain) → Silent (analyse_refusal c) ↔ Accepted c
 analyse_accepts c =
-    Iff·trans (silent_as (analyse_parts c), silent_as (sym (analyse_parts c)))
-    (Iff·trans (or_silents (chain_refusal c) (first (size_checks c))) (Iff·trans (Iff·and (sound c) Iff·rfl) (size_accepts c)))
+    Iff.trans (silent_as (analyse_parts c), silent_as (sym (analyse_parts c)))
+    (Iff.trans (or_silents (chain_refusal c) (first (size_checks c))) (Iff.trans (Iff.and (sound c) Iff.rfl) (size_accepts c)))
 
 -- the answer that code was given, where it is not refused: the chain is accepted, and this is its analysis
 pub analysed : {a : AnalysisAnswer} (c : Chain) → a ≡ analyse_answer c → a.number ≡ 0 → Accepted c × (a ≡ record { number = 0; place = 0; analysis = analysis_of c })
@@ -55,8 +55,8 @@ analysed c e z =
 
 pub run_accepts : (c : Chain) → Silent (run_refusal c) ↔ (Accepted c × ((i : ℕ) → i < c.n → Enough c i))
 run_accepts c =
-    Iff·trans (silent_as (run_parts c), silent_as (sym (run_parts c)))
-    (Iff·trans (or_silents (analyse_refusal c) (capacity_check c)) (Iff·and (analyse_accepts c) (capacity_silent c)))
+    Iff.trans (silent_as (run_parts c), silent_as (sym (run_parts c)))
+    (Iff.trans (or_silents (analyse_refusal c) (capacity_check c)) (Iff.and (analyse_accepts c) (capacity_silent c)))
 
 -- what code was answered that asked whether a chain may run
 module _ {a : AnalysisAnswer} (c : Chain) (e : a ≡ run_answer c) where

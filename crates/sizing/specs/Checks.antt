@@ -27,7 +27,7 @@ use Rattle.std.specs.Prelude.{◌≡◌, refl, Bool, not, ◌||◌, ◌&&◌, �
 use Rattle.std.proofs.Common.{sym, ◌∙◌, arith, le-ltb, eq-eqb}
 use Rattle.std.proofs.Math.Path.{ap}
 use Rattle.std.proofs.Math.Bool.{true, false, cond}
-use Rattle.std.proofs.Math.Logic.{⊎_elim, Iff·trans, Iff·and, Iff·rfl, true-and}
+use Rattle.std.proofs.Math.Logic.{⊎_elim, Iff.trans, Iff.and, Iff.rfl, true-and}
 use Prim.Native.Nat.{ℕ, zero, suc, ◌+◌, ◌*◌, ◌^◌, ◌≤◌, ◌<◌}
 use Rattle.std.proofs.Math.Nat.{le_refl}
 use Rattle.std.proofs.Math.Dec.{ltb}
@@ -145,14 +145,14 @@ pub record FirstTooLarge (c : Chain) (L : ℕ) : Type 0 where
 
 module _ (c : Chain) where
   pub rate_silent : (i : ℕ) → Silent (rate_test c i) ↔ InLimit c (suc i)
-  rate_silent i = Iff·trans (test_silent 6 (suc i) (λ e. omega arith) _) (too_large_false (x_of c (suc i)) (y_of c (suc i)))
+  rate_silent i = Iff.trans (test_silent 6 (suc i) (λ e. omega arith) _) (too_large_false (x_of c (suc i)) (y_of c (suc i)))
 
   rate_says : (i L : ℕ) → (rate_test c i ≡ refused 6 L) ↔ (((limit < x_of c (suc i)) ⊎ (limit < y_of c (suc i))) × (L ≡ suc i))
-  rate_says i L = Iff·trans (test_exact 6 L (suc i) (λ e. omega arith) _) (Iff·and (too_large_true (x_of c (suc i)) (y_of c (suc i))) Iff·rfl)
+  rate_says i L = Iff.trans (test_exact 6 L (suc i) (λ e. omega arith) _) (Iff.and (too_large_true (x_of c (suc i)) (y_of c (suc i))) Iff.rfl)
 
   pub rate_exact : (L : ℕ) → (rate_check c ≡ refused 6 L) ↔ FirstTooLarge c L
   unfolding rate_check
-  rate_exact L = Iff·trans (lowest_is 6 L (λ e. omega arith) (rate_test c) c.n) (out, back L)
+  rate_exact L = Iff.trans (lowest_is 6 L (λ e. omega arith) (rate_test c) c.n) (out, back L)
     where
       earlier : (k : ℕ) → ((j : ℕ) → j < k → Silent (rate_test c j)) → (j : ℕ) → 1 ≤ j → j < suc k → InLimit c j
       earlier k h zero p l = absurd (omega arith)
@@ -174,13 +174,13 @@ module _ (c : Chain) where
 
   pub rates_silent : Silent (rate_check c) ↔ ((i : ℕ) → i < c.n → InLimit c (suc i))
   unfolding rate_check
-  rates_silent = Iff·trans (all_silent (rate_test c) c.n) (λ h i l. (rate_silent i).0 (h i l), λ h i l. (rate_silent i).1 (h i l))
+  rates_silent = Iff.trans (all_silent (rate_test c) c.n) (λ h i l. (rate_silent i).0 (h i l), λ h i l. (rate_silent i).1 (h i l))
 
   pub load_exact : (L : ℕ) → (load_check c ≡ refused 7 L) ↔ ((cycle_of c < busy_of c) × (L ≡ 0))
-  load_exact L = Iff·trans (test_exact 7 L 0 (λ e. omega arith) _) (Iff·and (below_true (cycle_of c) (busy_of c)) Iff·rfl)
+  load_exact L = Iff.trans (test_exact 7 L 0 (λ e. omega arith) _) (Iff.and (below_true (cycle_of c) (busy_of c)) Iff.rfl)
 
   pub load_silent : Silent (load_check c) ↔ (busy_of c ≤ cycle_of c)
-  load_silent = Iff·trans (test_silent 7 0 (λ e. omega arith) _) (below_false (cycle_of c) (busy_of c))
+  load_silent = Iff.trans (test_silent 7 0 (λ e. omega arith) _) (below_false (cycle_of c) (busy_of c))
 
 -- the capacity in force is below the minimum exactly where one is written, and that is
 pub short_alike : (B b : ℕ) → ltb (capacity B b) b ≡ (not (eqb B 0) && ltb B b)
@@ -206,14 +206,14 @@ pub record FirstShort (c : Chain) (L : ℕ) : Type 0 where
 
 module _ (c : Chain) where
   pub enough_silent : (i : ℕ) → Silent (capacity_test c i) ↔ Enough c i
-  enough_silent i = Iff·trans (test_silent 8 i (λ e. omega arith) _) (and_false (differ_false (row_of c i).capacity 0) (below_false (row_of c i).capacity (minimum_of (row_of c i))))
+  enough_silent i = Iff.trans (test_silent 8 i (λ e. omega arith) _) (and_false (differ_false (row_of c i).capacity 0) (below_false (row_of c i).capacity (minimum_of (row_of c i))))
 
   short_says : (i L : ℕ) → (capacity_test c i ≡ refused 8 L) ↔ (Short c i × (L ≡ i))
-  short_says i L = Iff·trans (test_exact 8 L i (λ e. omega arith) _) (Iff·and (and_true (differ_true (row_of c i).capacity 0) (below_true (row_of c i).capacity (minimum_of (row_of c i)))) Iff·rfl)
+  short_says i L = Iff.trans (test_exact 8 L i (λ e. omega arith) _) (Iff.and (and_true (differ_true (row_of c i).capacity 0) (below_true (row_of c i).capacity (minimum_of (row_of c i)))) Iff.rfl)
 
   pub capacity_exact : (L : ℕ) → (capacity_check c ≡ refused 8 L) ↔ FirstShort c L
   unfolding capacity_check
-  capacity_exact L = Iff·trans (lowest_is 8 L (λ e. omega arith) (capacity_test c) c.n) (out, back)
+  capacity_exact L = Iff.trans (lowest_is 8 L (λ e. omega arith) (capacity_test c) c.n) (out, back)
     where
       out : Lowest (capacity_test c) c.n 8 L → FirstShort c L
       out f =
@@ -234,7 +234,7 @@ module _ (c : Chain) where
 
   pub capacity_silent : Silent (capacity_check c) ↔ ((i : ℕ) → i < c.n → Enough c i)
   unfolding capacity_check
-  capacity_silent = Iff·trans (all_silent (capacity_test c) c.n) (λ h i l. (enough_silent i).0 (h i l), λ h i l. (enough_silent i).1 (h i l))
+  capacity_silent = Iff.trans (all_silent (capacity_test c) c.n) (λ h i l. (enough_silent i).0 (h i l), λ h i l. (enough_silent i).1 (h i l))
 
   -- the analysis shows 8: a capacity in force is below the minimum only where it is written
   pub short_is_capacity : c.n ≤ 16 → short_in (analysis_of c) ≡ capacity_check c
@@ -281,23 +281,23 @@ module _ (c : Chain) (L : ℕ) where
 
   pub analyse_2 : (analyse_refusal c ≡ refused 2 L) ↔ (Out 1 16 c.n × (L ≡ 0))
   unfolding Silents
-  analyse_2 = Iff·trans (analyse_at 0 (omega arith)) (Iff·trans true-and (count_exact L c.n))
+  analyse_2 = Iff.trans (analyse_at 0 (omega arith)) (Iff.trans true-and (count_exact L c.n))
 
   pub analyse_4 : (analyse_refusal c ≡ refused 4 L) ↔ (Silents (count_check c.n ∷ []) × FirstOut (fields c 20 (20 + 20 * c.n)) L)
-  analyse_4 = Iff·trans (analyse_at 1 (omega arith)) (Iff·and Iff·rfl (range_exact L c 20 (20 + 20 * c.n)))
+  analyse_4 = Iff.trans (analyse_at 1 (omega arith)) (Iff.and Iff.rfl (range_exact L c 20 (20 + 20 * c.n)))
 
   pub analyse_5 : (analyse_refusal c ≡ refused 5 L) ↔ (Silents (count_check c.n ∷ record_range c ∷ []) × FirstOver c 20 L)
-  analyse_5 = Iff·trans (analyse_at 2 (omega arith)) (Iff·and Iff·rfl (order_exact L c 20))
+  analyse_5 = Iff.trans (analyse_at 2 (omega arith)) (Iff.and Iff.rfl (order_exact L c 20))
 
   pub analyse_6 : (analyse_refusal c ≡ refused 6 L) ↔ (Silents (chain_checks c) × FirstTooLarge c L)
-  analyse_6 = Iff·trans (analyse_at 3 (omega arith)) (Iff·and Iff·rfl (rate_exact c L))
+  analyse_6 = Iff.trans (analyse_at 3 (omega arith)) (Iff.and Iff.rfl (rate_exact c L))
 
   pub analyse_7 : (analyse_refusal c ≡ refused 7 L) ↔ (Silents (chain_checks c ++ (rate_check c ∷ [])) × ((cycle_of c < busy_of c) × (L ≡ 0)))
-  analyse_7 = Iff·trans (analyse_at 4 (omega arith)) (Iff·and Iff·rfl (load_exact c L))
+  analyse_7 = Iff.trans (analyse_at 4 (omega arith)) (Iff.and Iff.rfl (load_exact c L))
 
   pub run_8 : (run_refusal c ≡ refused 8 L) ↔ (Silents (analyse_checks c) × FirstShort c L)
   unfolding run_refusal
-  run_8 = Iff·trans (exact_at run_numbers (run_checks c) (run_numbered c) tt 5 L (omega arith)) (Iff·and Iff·rfl (capacity_exact c L))
+  run_8 = Iff.trans (exact_at run_numbers (run_checks c) (run_numbered c) tt 5 L (omega arith)) (Iff.and Iff.rfl (capacity_exact c L))
 
   -- every other number is said of a chain that is to be run exactly when the analysis says it
   pub run_earlier : (N : ℕ) → N ≢ 0 → N ≢ 8 → (run_refusal c ≡ refused N L) ↔ (analyse_refusal c ≡ refused N L)

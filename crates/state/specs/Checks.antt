@@ -38,7 +38,7 @@
 --                              the state whose numbers are lent, which 17 is said of
 use Rattle.std.specs.Prelude.{◌≡◌, refl, Bool, true, false, not, ◌||◌, ◌&&◌, ◌↔◌, ◌≢◌, ◌⊎◌, List, ℕ, zero, suc, ◌+◌, ◌*◌, ◌≤◌, ◌<◌, ltb, leb, eqb, get_or, replicate}
 use Rattle.std.proofs.Common.{ap, ◌∙◌, inl, inr, zero-add, add-zero, arith, ne_eqb}
-use Rattle.std.proofs.Math.Logic.{⊎_elim, by_cases, Iff·trans, Iff·and, Iff·rfl}
+use Rattle.std.proofs.Math.Logic.{⊎_elim, by_cases, Iff.trans, Iff.and, Iff.rfl}
 use Rattle.std.proofs.Math.Decide.{dec_lt}
 use Rattle.std.proofs.lemmas.Bool.{eqb-false}
 use Rattle.words.specs.Table.{tab, tab_alike}
@@ -137,13 +137,13 @@ module _ (c : Chain) (s : Run) (left right : ℕ → ℕ) where
     pub before : (j : ℕ) → j < L → SteadyAt j
 
   pub queue_silent : (i : ℕ) → Silent (queue_test i) ↔ SteadyAt i
-  queue_silent i = Iff·trans (test_silent 17 i (λ e. omega arith) _) (or_false (or_false (differ_false _ _) (below_false _ _)) (upto_false _ _))
+  queue_silent i = Iff.trans (test_silent 17 i (λ e. omega arith) _) (or_false (or_false (differ_false _ _) (below_false _ _)) (upto_false _ _))
 
   pub queue_says : (i L : ℕ) → (queue_test i ≡ refused 17 L) ↔ (BrokenAt i × (L ≡ i))
-  queue_says i L = Iff·trans (test_exact 17 L i (λ e. omega arith) _) (Iff·and (or_true (or_true (differ_true _ _) (below_true _ _)) (upto_true _ _)) Iff·rfl)
+  queue_says i L = Iff.trans (test_exact 17 L i (λ e. omega arith) _) (Iff.and (or_true (or_true (differ_true _ _) (below_true _ _)) (upto_true _ _)) Iff.rfl)
 
   pub queues_exact : (L : ℕ) → (first (tab c.n queue_test) ≡ refused 17 L) ↔ FirstBrokenAt L
-  queues_exact L = Iff·trans (lowest_is 17 L (λ e. omega arith) queue_test c.n) (out, back)
+  queues_exact L = Iff.trans (lowest_is 17 L (λ e. omega arith) queue_test c.n) (out, back)
     where
       out : Lowest queue_test c.n 17 L → FirstBrokenAt L
       out f =
@@ -154,7 +154,7 @@ module _ (c : Chain) (s : Run) (left right : ℕ → ℕ) where
       back f = record { at = L; inside = f.queue; says = (queue_says L L).1 (f.broken, refl); before = λ j l. (queue_silent j).1 (f.before j l) }
 
   pub queues_silent : Silent (first (tab c.n queue_test)) ↔ ((i : ℕ) → i < c.n → SteadyAt i)
-  queues_silent = Iff·trans (all_silent queue_test c.n) (λ h i l. (queue_silent i).0 (h i l), λ h i l. (queue_silent i).1 (h i l))
+  queues_silent = Iff.trans (all_silent queue_test c.n) (λ h i l. (queue_silent i).0 (h i l), λ h i l. (queue_silent i).1 (h i l))
 
   pub queues_only : Only 17 (first (tab c.n queue_test))
   queues_only = only_tab 17 queue_test (λ i. only_test 17 i (broken_unless (eqb (left i) (right i)) (row_of c i) (work_of c i) (held_at s i) (done_at s i))) c.n
@@ -209,30 +209,30 @@ module _ (c : Chain) (s : Run) where
   over_true (suc j) = upto_true _ _
 
   pub count_exact : (i L : ℕ) → (count_check c s i ≡ refused 9 L) ↔ (((i ≤ c.n) × (count_at s i ≡ limit)) × (L ≡ i))
-  count_exact i L = Iff·trans (test_exact 9 L i (λ e. omega arith) _) (Iff·and (and_true (upto_true _ _) (equal_true _ _)) Iff·rfl)
+  count_exact i L = Iff.trans (test_exact 9 L i (λ e. omega arith) _) (Iff.and (and_true (upto_true _ _) (equal_true _ _)) Iff.rfl)
 
   pub over_exact : (i L : ℕ) → (over_check c s i ≡ refused 11 L) ↔ (((c.n < i) ⊎ (Over c s i → ⊥)) × (L ≡ i))
-  over_exact i L = Iff·trans (test_exact 11 L i (λ e. omega arith) _) (Iff·and (or_true (below_true _ _) (negated_true (over_true i))) Iff·rfl)
+  over_exact i L = Iff.trans (test_exact 11 L i (λ e. omega arith) _) (Iff.and (or_true (below_true _ _) (negated_true (over_true i))) Iff.rfl)
 
   pub cramped_is : (i : ℕ) → (cramped c s i ≡ true) ↔ Cramped c s i
   unfolding cramped
   cramped_is i = and_true (below_true _ _) (below_true _ _)
 
   pub room_exact : (i L : ℕ) → (room_check c s i ≡ refused 12 L) ↔ (Cramped c s i × (L ≡ i))
-  room_exact i L = Iff·trans (test_exact 12 L i (λ e. omega arith) _) (Iff·and (cramped_is i) Iff·rfl)
+  room_exact i L = Iff.trans (test_exact 12 L i (λ e. omega arith) _) (Iff.and (cramped_is i) Iff.rfl)
 
   pub count_silent : (i : ℕ) → i ≤ c.n → Silent (count_check c s i) ↔ (count_at s i ≢ limit)
-  count_silent i l = Iff·trans (test_silent 9 i (λ e. omega arith) _) (Iff·trans (and_false (upto_false _ _) (unequal _ _)) (⊎_elim (λ (f : c.n < i). absurd (omega arith)) (λ n. n), inr))
+  count_silent i l = Iff.trans (test_silent 9 i (λ e. omega arith) _) (Iff.trans (and_false (upto_false _ _) (unequal _ _)) (⊎_elim (λ (f : c.n < i). absurd (omega arith)) (λ n. n), inr))
     where
       unequal : (a b : ℕ) → (eqb a b ≡ false) ↔ (a ≢ b)
       unequal a b = (λ e. eqb-false a b e, λ n. ne_eqb a b n)
 
   pub over_silent : (i : ℕ) → Silent (over_check c s i) ↔ ((i ≤ c.n) × Over c s i)
-  over_silent i = Iff·trans (test_silent 11 i (λ e. omega arith) _) (or_false (below_false _ _) (negated_false (over_true i)))
+  over_silent i = Iff.trans (test_silent 11 i (λ e. omega arith) _) (or_false (below_false _ _) (negated_false (over_true i)))
 
   pub cramped_room : (i : ℕ) → (cramped c s i ≡ false) ↔ Room c s i
   unfolding cramped
-  cramped_room i = Iff·trans (and_false (below_false _ _) (below_false _ _)) (out, back)
+  cramped_room i = Iff.trans (and_false (below_false _ _) (below_false _ _)) (out, back)
     where
       out : (c.n ≤ i) ⊎ (held_at s i + (row_of c i).produce ≤ capacity_of (row_of c i)) → Room c s i
       out h l = ⊎_elim (λ m. absurd (omega arith)) (λ f. f) h
@@ -248,7 +248,7 @@ module _ (c : Chain) (s : Run) where
       by false e = inr ((cramped_room i).0 e)
 
   pub room_silent : (i : ℕ) → Silent (room_check c s i) ↔ Room c s i
-  room_silent i = Iff·trans (test_silent 12 i (λ e. omega arith) _) (cramped_room i)
+  room_silent i = Iff.trans (test_silent 12 i (λ e. omega arith) _) (cramped_room i)
 
   pub count_only : (i : ℕ) → Only 9 (count_check c s i)
   count_only i = only_test 9 i (spent c s i)

@@ -16,7 +16,7 @@
 use Rattle.std.specs.Prelude.{◌≡◌, ◌↔◌, ◌≢◌, ◌⊎◌, List, [], ◌∷◌, ◌++◌, ℕ, zero, suc, ◌+◌, ◌≤◌, ◌<◌, get_or, take}
 use Rattle.std.proofs.Math.Path.{refl}
 use Rattle.std.proofs.Common.{sym, eq-eqb, ne_eqb}
-use Rattle.std.proofs.Math.Logic.{Iff·trans, Iff·and, Iff·rfl}
+use Rattle.std.proofs.Math.Logic.{Iff.trans, Iff.and, Iff.rfl}
 use native.Mathlib.Omega.{arith}
 use Rattle.chain.specs.Refusals.{refused, fine, first, or_else, first_append, Silent, Silents, or_silents, silent_as, first_silent, Numbered, exact_at, said_earlier, numbered_append}
 use Rattle.chain.specs.Record.{row_of}
@@ -112,17 +112,17 @@ module _ (c : Chain) (s : Run) (i L : ℕ) where
   fire_at k l = exact_at fire_numbers (fire_checks c s i) (fire_numbered c s i) tt k L l
 
   pub fire_17 : (fire_refusal c s i ≡ refused 17 L) ↔ (Silents (analyse_checks c) × FirstBroken c s L)
-  fire_17 = Iff·trans (fire_at 5 (omega arith)) (Iff·and Iff·rfl (state_exact c s L))
+  fire_17 = Iff.trans (fire_at 5 (omega arith)) (Iff.and Iff.rfl (state_exact c s L))
 
   pub fire_9 : (fire_refusal c s i ≡ refused 9 L) ↔ (Silents (analyse_checks c ++ (state_check c s ∷ [])) × (((i ≤ c.n) × (count_at s i ≡ limit)) × (L ≡ i)))
-  fire_9 = Iff·trans (fire_at 6 (omega arith)) (Iff·and Iff·rfl (own.count_exact c s i L))
+  fire_9 = Iff.trans (fire_at 6 (omega arith)) (Iff.and Iff.rfl (own.count_exact c s i L))
 
   pub fire_11 : (fire_refusal c s i ≡ refused 11 L) ↔ (Silents (analyse_checks c ++ (state_check c s ∷ count_check c s i ∷ [])) × (((c.n < i) ⊎ (Over c s i → ⊥)) × (L ≡ i)))
-  fire_11 = Iff·trans (fire_at 7 (omega arith)) (Iff·and Iff·rfl (over_exact c s i L))
+  fire_11 = Iff.trans (fire_at 7 (omega arith)) (Iff.and Iff.rfl (over_exact c s i L))
 
   pub fire_12 : (fire_refusal c s i ≡ refused 12 L) ↔ (Silents (analyse_checks c ++ (state_check c s ∷ count_check c s i ∷ over_check c s i ∷ []))
       × (((i < c.n) × (capacity_of (row_of c i) < held_at s i + (row_of c i).produce)) × (L ≡ i)))
-  fire_12 = Iff·trans (fire_at 8 (omega arith)) (Iff·and Iff·rfl (room_exact c s i L))
+  fire_12 = Iff.trans (fire_at 8 (omega arith)) (Iff.and Iff.rfl (room_exact c s i L))
 
   -- what the analysis says stands, and nothing else has its numbers
   pub fire_earlier : (N : ℕ) → N ≢ 0 → N < 9 → (fire_refusal c s i ≡ refused N L) ↔ (analyse_refusal c ≡ refused N L)
@@ -135,8 +135,8 @@ module _ (c : Chain) (s : Run) (i : ℕ) where
   pub fire_accepts : Silent (fire_refusal c s i) ↔ (Accepted c × (StateSound c s × May c s i))
   unfolding Silents
   fire_accepts =
-      Iff·trans (silent_as (fire_parts c s i), silent_as (sym (fire_parts c s i)))
-      (Iff·trans (or_silents _ _) (Iff·and (analyse_accepts c) (Iff·trans (or_silents _ _) (Iff·and (state_silent c s) (Iff·trans (first_silent (node_checks c s i)) (out, back))))))
+      Iff.trans (silent_as (fire_parts c s i), silent_as (sym (fire_parts c s i)))
+      (Iff.trans (or_silents _ _) (Iff.and (analyse_accepts c) (Iff.trans (or_silents _ _) (Iff.and (state_silent c s) (Iff.trans (first_silent (node_checks c s i)) (out, back))))))
     where
       out : Silents (node_checks c s i) → May c s i
       out h =
@@ -147,7 +147,7 @@ module _ (c : Chain) (s : Run) (i : ℕ) where
       back m = ((own.count_silent c s i m.node).1 m.countable, ((over_silent c s i).1 (m.node, m.over), ((room_silent c s i).1 m.room, tt)))
 
   pub firing_is : Silent (fire_refusal c s i) ↔ Firing c s i
-  firing_is = Iff·trans fire_accepts (λ h. record { chain = h.0; state = h.1.0; may = h.1.1 }, λ f. (f.chain, (f.state, f.may)))
+  firing_is = Iff.trans fire_accepts (λ h. record { chain = h.0; state = h.1.0; may = h.1.1 }, λ f. (f.chain, (f.state, f.may)))
 
   -- what a firing gives back: the state after it, or the state as it was
   pub fire_accepted : Silent (fire_refusal c s i) → (fire_answer c s i).run ≡ fired c s i
