@@ -21,9 +21,10 @@
 --   count-, range-, order_only each check speaks with its own number only
 --   record_2, record_4, record_5
 --                              when a record is refused with each number
+use Rattle.std.proofs.Math.Logic.Iff
 use Rattle.std.specs.Prelude.{◌≡◌, refl, true, ◌↔◌, List, [], ◌∷◌, ◌++◌, map, ℕ, ◌+◌, ◌*◌, ◌≤◌, ◌<◌, ltb, length, get_or, take}
 use Rattle.std.proofs.Common.{sym, ◌∙◌, add-zero, arith, lt-ltb, ltb-true}
-use Rattle.std.proofs.Math.Logic.{Iff.trans, Iff.and, Iff.rfl, true-and}
+use Rattle.std.proofs.Math.Logic.{true-and}
 use Rattle.std.proofs.lemmas.List.{length-map}
 use Rattle.std.proofs.Math.ListN.{get_or-map}
 use Rattle.words.specs.Flat.{flat}

@@ -7,8 +7,8 @@
 --                      what the factory refuses, and answers, to any number
 --   factory_exact      14 is said exactly under its condition
 --   trimmed_factory    a chain that the factory gives has its slots past n zero
+use Rattle.std.proofs.Math.Logic.Iff
 use Rattle.std.specs.Prelude.{◌≡◌, refl, ◌↔◌, List, [], ◌∷◌, ℕ, zero, suc, ◌<◌, leb, length, get_or}
-use Rattle.std.proofs.Math.Logic.{Iff.trans, Iff.and, Iff.rfl}
 use Rattle.std.proofs.Common.{arith}
 use Rattle.words.specs.Rows.{none}
 use Rattle.words.specs.Table.{tab, slots}

@@ -7,9 +7,9 @@
 --   settled_is                      which is what the two checks say
 --   Few n, FineRows c k, TablesAt n q w, RowPlace at
 --                                   what the code of the pass asks: few rows, the first k of them fine, at places of a file
+use Rattle.std.proofs.Math.Logic.Iff
 use Rattle.std.specs.Prelude.{◌≡◌, Bool, true, ◌&&◌, ◌↔◌, [], ◌∷◌, ℕ, ◌+◌, ◌*◌, ◌≤◌, ◌<◌, leb, eqb}
 use Rattle.std.proofs.Common.{sym, ap₂, arith}
-use Rattle.std.proofs.Math.Logic.{Iff.trans}
 use Rattle.words.specs.Table.{tab}
 use Rattle.words.specs.declared.Queue.{Queue}
 use Rattle.chain.specs.Tests.{In, upto_true, equal_true, and_true}

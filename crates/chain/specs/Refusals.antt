@@ -29,10 +29,11 @@
 --   exact_once               a list says the number of its check k, which stands once, at L exactly when the checks before it are silent and it says so
 --   exact_at                 the same of each check, where no number stands twice
 --   said_earlier             a list says a number that its last checks do not have exactly when the checks before these say it
+use Rattle.std.proofs.Math.Logic.Iff
 use Rattle.std.specs.Prelude.{◌≡◌, Bool, true, false, cond, not, ◌&&◌, ◌↔◌, ◌≢◌, ◌⊎◌, T, eqb, length, get_or, take, drop}
 use Rattle.std.proofs.Math.Path.{refl, sym, ap}
 use Rattle.std.proofs.Common.{ap₂, ◌∙◌, true≢false, inl, inr, ⊎_elim, not-suc-le-zero, arith, T_not, eq-eqb, ne_eqb}
-use Rattle.std.proofs.Math.Logic.{Iff.trans, Iff.symm, Iff.and, Iff.rfl, true-and, by_cases}
+use Rattle.std.proofs.Math.Logic.{true-and, by_cases}
 use mathlib.Core.List.{List, [], ◌∷◌, ◌++◌, map, map-append}
 use Prim.Native.Nat.{ℕ, zero, suc, ◌+◌, ◌<◌}
 use Rattle.std.proofs.Math.Decide.{ℕ_discrete}

@@ -5,9 +5,9 @@
 --   row_sound                       4 and 5 of a row are silent, wherever it stands, exactly when the row is sound
 --   sound_is                        2, 4 and 5 are silent, the tables standing anywhere, exactly when the chain is sound
 --   sound, sound_known              a record is not refused exactly when it is sound
+use Rattle.std.proofs.Math.Logic.Iff
 use Rattle.std.specs.Prelude.{◌≡◌, ◌↔◌, List, [], ◌∷◌, map, ℕ, ◌+◌, ◌*◌, ◌≤◌, ◌<◌}
 use Rattle.std.proofs.Common.{ap, ap₂, ◌∙◌, arith}
-use Rattle.std.proofs.Math.Logic.{Iff.trans, Iff.and}
 use Rattle.std.proofs.lemmas.List.{map-append}
 use Rattle.words.specs.Flat.{flat}
 use Rattle.words.specs.Table.{tab}

@@ -4,8 +4,8 @@
 --   read_accepts           the reader accepts exactly such a file
 --   write_accepts          the writer accepts exactly a sound chain that fits
 --   read_fine, write_fine  a call that is silent answers number 0 with place 0
+use Rattle.std.proofs.Math.Logic.Iff
 use Rattle.std.specs.Prelude.{◌≡◌, refl, Bool, false, ◌↔◌, List, [], ◌∷◌, ℕ, ◌+◌, ◌*◌, ◌≤◌, length}
-use Rattle.std.proofs.Math.Logic.{Iff.trans}
 use Rattle.std.proofs.Common.{arith}
 use Rattle.chain.specs.Tests.{In, below_false}
 use Rattle.chain.specs.Refusals.{fine, test, first, Silent, Silents, silent_as, first_fine, first_silent, test_silent}

@@ -23,9 +23,10 @@
 --   length_silent              and 1 is silent exactly where it does not hold
 --   length_only, offset_only   each speaks with its own number only
 --   read_1 .. read_5           when a file is refused with each number
+use Rattle.std.proofs.Math.Logic.Iff
 use Rattle.std.specs.Prelude.{◌≡◌, refl, Bool, true, false, ◌||◌, ◌&&◌, not, ◌↔◌, ◌≢◌, ◌⊎◌, List, [], ◌∷◌, ℕ, ◌+◌, ◌*◌, ◌%◌, ◌≤◌, ◌<◌, max, ltb, eqb, length, get_or, take, drop}
 use Rattle.std.proofs.Common.{sym, ◌∙◌, true≢false, arith}
-use Rattle.std.proofs.Math.Logic.{Iff.trans, Iff.and, Iff.rfl, true-and}
+use Rattle.std.proofs.Math.Logic.{true-and}
 use Rattle.words.specs.Rows.{none, row_at}
 use Rattle.words.specs.Table.{slots}
 use Rattle.words.specs.Words.{word_at}

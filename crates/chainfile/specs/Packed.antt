@@ -19,9 +19,10 @@
 --   rows-, nodes-, packed_length_law, packed_parts
 --                        how long the tables and the file are, and what the file is made of
 --   TableFits, Fits      what the code of the writer asks: few queues, and room
+use Rattle.std.proofs.Math.Logic.Iff
 use Rattle.std.specs.Prelude.{◌≡◌, refl, Bool, true, false, cond, ◌↔◌, List, [], ◌∷◌, ◌++◌, ℕ, ◌+◌, ◌*◌, ◌≤◌, ◌<◌, ltb, eqb, length, drop, get_or, take}
 use Rattle.std.proofs.Common.{sym, ap, ◌∙◌, arith, length-append}
-use Rattle.std.proofs.Math.Logic.{Iff.trans, Iff.and, Iff.rfl, true-and}
+use Rattle.std.proofs.Math.Logic.{true-and}
 use Rattle.words.specs.Flat.{flat, flat_length}
 use Rattle.words.specs.Words.{bytes_of, bytes_append, bytes_length}
 use Rattle.words.specs.Rows.{row}

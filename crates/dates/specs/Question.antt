@@ -17,9 +17,9 @@
 --   deadline_most              no deadline is above 4,294,967,294 × 1,000,000 where no index passes
 --   dated_had, dated_never     what dated_of is where 13 is silent, and where it speaks
 --   dated_exact                it is never exactly when 13 speaks
+use Rattle.std.proofs.Math.Logic.Iff
 use Rattle.std.specs.Prelude.{◌≡◌, refl, ◌↔◌, ◌≢◌, ◌⊎◌, false, cond, ◌||◌, List, [], ◌∷◌, ◌++◌, ℕ, zero, suc, ◌+◌, ◌-◌, ◌*◌, ◌^◌, ◌≤◌, ◌<◌, ltb, eqb, get_or, take}
 use Rattle.std.proofs.Common.{sym, mul-le-mul, eq-eqb, ne_eqb}
-use Rattle.std.proofs.Math.Logic.{Iff.trans, Iff.and, Iff.rfl}
 use native.Mathlib.Omega.{arith}
 use Rattle.std.proofs.lemmas.Bool.{eqb-false}
 use Rattle.chain.specs.Tests.{below_true, below_false, equal_true, or_true, or_false}

@@ -10,10 +10,11 @@
 --                              the index grows with k, moves along with whole exchanges of tokens, and is never 0
 --   deadline_mono              deadlines are monotone in the index
 --   deadline_shift             and shift by Δ_0×y where each queue below is fed what it gives: p×Δ_(i−1) = c×Δ_i
+use Rattle.std.proofs.Math.Logic.Iff
 use Rattle.std.specs.Prelude.{◌≡◌, ◌↔◌, ◌⊎◌, cond, ltb, leb}
 use Rattle.std.proofs.Math.Path.{refl, subst}
 use Rattle.std.proofs.Common.{ap, inl, inr, ⊎_elim, le-leb}
-use Rattle.std.proofs.Math.Logic.{by_cases, Iff.trans, Iff.and, Iff.rfl}
+use Rattle.std.proofs.Math.Logic.{by_cases}
 use Prim.Native.Nat.{ℕ, zero, suc, ◌+◌, ◌-◌, ◌*◌, ◌/◌, ◌≤◌, ◌<◌}
 use Rattle.std.proofs.Math.Nat.{mul-le-mul_right, le_step, le_refl}
 use Rattle.std.proofs.Math.Decide.{dec_le}

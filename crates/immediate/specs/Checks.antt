@@ -13,10 +13,10 @@
 --   immediate_9, _earlier      when an immediate run is refused with each number
 --   immediate_accepts          it is not refused exactly when the chain is accepted, its capacities are enough, and no count passes the limit
 --   immediate_ran, _refused    the state that it gives
+use Rattle.std.proofs.Math.Logic.Iff
 use Rattle.std.specs.Prelude.{◌≡◌, refl, ◌↔◌, ◌≢◌, List, [], ◌∷◌, ◌++◌, ℕ, suc, ◌+◌, ◌≤◌, ◌<◌, ltb}
 use Rattle.std.proofs.Common.{sym, ◌∙◌, arith, eq-eqb, ne_eqb}
 use Rattle.std.proofs.Math.Path.{ap}
-use Rattle.std.proofs.Math.Logic.{Iff.trans, Iff.and, Iff.rfl}
 use Rattle.words.specs.Table.{tab}
 use Rattle.chain.specs.Tests.{below_true, below_false}
 use Rattle.chain.specs.Refusals.{refused, test, first, or_else, first_append, first_last, Silent, Silents, Numbered, exact_at, or_silents, silent_as}

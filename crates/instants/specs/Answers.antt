@@ -10,9 +10,9 @@
 --   run_stays, run_before      where it is not clean longer runs answer the same, so where one is clean the shorter ones are
 --   Ends c T o, run_ends       a run of T ticks ends with o exactly where the run up to o's instant is clean and the tick from there ends with o
 --   CleanStep c t s u, along   what each clean tick hands on from s to u at instant t holds of a clean run
+use Rattle.std.proofs.Math.Logic.Iff
 use Rattle.std.specs.Prelude.{◌≡◌, refl, ◌↔◌, ℕ, zero, suc, ◌+◌, ◌-◌, ◌≤◌, ◌<◌}
 use Rattle.std.proofs.Common.{sym, ap, subst, ◌∙◌, ⊎_elim, le_refl, le_trans, add-zero, arith}
-use Rattle.std.proofs.Math.Logic.{Iff.trans}
 use Rattle.chain.specs.Refusals.{Silent}
 use Rattle.chain.specs.declared.Chain.{Chain}
 use Rattle.sizing.specs.Checks.{Enough}

@@ -4,9 +4,10 @@
 --   lack_says, lack_silent     13 of one node: speaking where it is over threshold and its deadline can't be had, and silent elsewhere
 --   FirstLacking               13 in words: the lowest such node
 --   lacking_exact, _silent     13 speaks exactly under its condition, and is silent exactly elsewhere
+use Rattle.std.proofs.Math.Logic.Iff
 use Rattle.std.specs.Prelude.{◌≡◌, refl, ◌↔◌, Bool, true, false, ◌&&◌, not, ℕ, zero, suc, ◌≤◌, ◌<◌, eqb}
 use Rattle.std.proofs.Common.{sym, ◌∙◌, true≢false, arith}
-use Rattle.std.proofs.Math.Logic.{by_cases, Iff.trans, Iff.and, Iff.rfl}
+use Rattle.std.proofs.Math.Logic.{by_cases}
 use Rattle.std.proofs.Math.Decide.{ℕ_discrete}
 use Rattle.chain.specs.Tests.{equal_true, and_true, negated_true, negated_false}
 use Rattle.chain.specs.Refusals.{refused, Silent, Lowest, lowest_is, all_silent, test_exact, test_silent}

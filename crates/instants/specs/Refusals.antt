@@ -31,10 +31,10 @@
 --                              a silent refusal is fine
 --   tick_ran, _refused         what a tick answers
 --   deadline_run_ran, _refused what a deadline run answers
+use Rattle.std.proofs.Math.Logic.Iff
 use Rattle.std.specs.Prelude.{◌≡◌, refl, ◌↔◌, ◌≢◌, ◌⊎◌, List, [], ◌∷◌, ◌++◌, ℕ, suc, ◌≤◌, ◌<◌, ◌+◌, get_or, take, ltb, leb, eqb}
 use Rattle.std.proofs.Math.Path.{sym, ap}
 use Rattle.std.proofs.Common.{◌∙◌, inr, ⊎_elim, ne_eqb}
-use Rattle.std.proofs.Math.Logic.{Iff.trans, Iff.symm, Iff.and, Iff.rfl}
 use native.Mathlib.Omega.{arith}
 use Rattle.std.proofs.lemmas.Bool.{eqb-false}
 use Rattle.words.specs.Table.{tab}

@@ -8,11 +8,11 @@
 --   SourceOnce c s u           u is s after the source's step, field by field
 --   once_fires, once_rests     a firing of the source that is due is that, and no change where it is not due
 --   source_only                and nothing else is
+use Rattle.std.proofs.Math.Logic.Iff
 use Rattle.std.specs.Prelude.{◌≡◌, Bool, cond, ◌↔◌, ◌≢◌, ℕ, zero, suc, ◌+◌, ◌%◌, ◌≤◌, ◌<◌}
 use Rattle.std.proofs.Math.Path.{refl}
 use Rattle.std.proofs.Common.{sym, ap, ◌∙◌, arith, ext_get_or}
 use Rattle.std.proofs.Math.Bool.{true, false, true≢false}
-use Rattle.std.proofs.Math.Logic.{Iff.trans}
 use Rattle.std.specs.Int.{◌∣◌}
 use Rattle.std.proofs.Math.Nat.{dvd_iff_mod-eq-zero}
 use Rattle.chain.specs.Tests.{equal_true}

@@ -8,9 +8,10 @@
 --   long_exact, _silent, stray_silent, _only, _exact
 --                              each of the two speaks exactly where it should, and is silent elsewhere
 --   list_exact, _silent, _only 17 of the list speaks exactly then, at place 0, is silent exactly elsewhere, and has its own number
+use Rattle.std.proofs.Math.Logic.Iff
 use Rattle.std.specs.Prelude.{◌≡◌, ◌↔◌, ◌⊎◌, ℕ, ◌≤◌, ◌<◌, leb, ltb}
 use Rattle.std.proofs.Common.{sym, ◌∙◌, inl, inr, arith}
-use Rattle.std.proofs.Math.Logic.{⊎_elim, Iff.trans, Iff.and, Iff.rfl}
+use Rattle.std.proofs.Math.Logic.{⊎_elim}
 use Rattle.words.specs.Table.{tab}
 use Rattle.chain.specs.Tests.{below_true, below_false, upto_true, upto_false}
 use Rattle.chain.specs.Refusals.{refused, test, first, or_else, Silent, lowest_is, all_silent, test_exact, test_silent, or_says, or_silents, Only, only_test, only_tab, only_or}

@@ -57,10 +57,11 @@
 --   tick_stores              and what C's tick asks before it stores a state
 --   reads_back, writes_packed, packed_is_itself
 --                            "Reading a written chain file gives the chain back; writing a chain that was read gives the packed file"
+use Rattle.std.proofs.Math.Logic.Iff
 use Rattle.std.specs.Prelude.{◌≡◌, refl, true, ◌↔◌, ◌≢◌, ◌⊎◌, List, [], ◌∷◌, ◌++◌, ℕ, zero, suc, ◌+◌, ◌-◌, ◌*◌, ◌/◌, ◌≤◌, ◌<◌, pos, ◌+ℤ◌, length, get_or, take, drop, replicate}
 use Rattle.std.proofs.Math.Path.{sym, ap}
 use Rattle.std.proofs.Common.{subst, ◌∙◌, arith, le-leb}
-use Rattle.std.proofs.Math.Logic.{inl, inr, ⊎_elim, Iff.symm, Iff.trans, Iff.and, Iff.rfl}
+use Rattle.std.proofs.Math.Logic.{inl, inr, ⊎_elim}
 use Rattle.std.specs.Int.{◌∣◌}
 use Rattle.std.proofs.Math.Nat.{sub-zero}
 use Rattle.ardenquill.specs.Chains.{Silents, tab, row_of, work_of, trimmed}

@@ -21,10 +21,11 @@
 --                            when 1, 2, 3, 4 and 5 are answered, each where none before it is; header_known and tables-known: and then the header, and the tables, are there
 --   word_out, word_in, read_says, answer_refusal, answer_chain, queues_at_law, nodes_at_law
 --                            these words and the definitions of the reader, which the files above cite
+use Rattle.std.proofs.Math.Logic.Iff
 use Rattle.std.specs.Prelude.{◌≡◌, Bool, true, false, ◌↔◌, ◌≢◌, ◌⊎◌, ℕ, ◌+◌, ◌-◌, ◌*◌, ◌≤◌, ◌<◌, length, get_or}
 use Rattle.std.proofs.Math.Path.{refl, sym}
 use Rattle.std.proofs.Common.{ap, subst, ◌∙◌, inl, inr, ⊎_elim, le_refl, arith}
-use Rattle.std.proofs.Math.Logic.{by_cases, Iff.not, Iff.symm, Iff.trans, Iff.and, Iff.rfl}
+use Rattle.std.proofs.Math.Logic.{by_cases}
 use mathlib.Core.List.{List, [], ◌∷◌}
 use Rattle.std.specs.Int.{◌∣◌}
 use Rattle.std.proofs.Math.Nat.{mod-eq-zero_of_dvd, dvd_of_mod-eq-zero}

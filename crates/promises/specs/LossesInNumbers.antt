@@ -9,10 +9,11 @@
 --                            it notes two losses at most, so a list with two slots left is not found full
 --   rec_tick_folded          and then it does not rest on the entries what it makes of the state: another list that is accepted with it, its entries folded into fewer say, would do
 --   rec_tick_refused_next    what 15 at a finish leaves is refused 17 next, at the queue that feeds the node
+use Rattle.std.proofs.Math.Logic.Iff
 use Rattle.std.specs.Prelude.{◌≡◌, refl, ◌↔◌, ◌⊎◌, ℕ, suc, ◌+◌, ◌*◌, ◌≤◌, ◌<◌}
 use Rattle.std.proofs.Common.{sym, ap, ◌∙◌, inl, inr, arith}
 use Rattle.std.proofs.Math.Path.{subst}
-use Rattle.std.proofs.Math.Logic.{⊎_elim, by_cases, Iff.trans, Iff.and, Iff.rfl}
+use Rattle.std.proofs.Math.Logic.{⊎_elim, by_cases}
 use Rattle.std.proofs.Math.Decide.{dec_lt}
 use Rattle.ardenquill.specs.Chains.{refused, row_of}
 use Rattle.ardenquill.specs.Analyses.{start}

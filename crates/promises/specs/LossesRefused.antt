@@ -19,8 +19,9 @@
 --                            slots past n and entries from the new count on stay as they were, or are zero in a run
 --   losses_alike, rec_tick_past, rec_run_past
 --                            and none of them is read
+use Rattle.std.proofs.Math.Logic.Iff
 use Rattle.std.specs.Prelude.{◌≡◌, refl, ◌↔◌, ◌≢◌, ◌⊎◌, [], ◌∷◌, ◌++◌, ℕ, suc, ◌+◌, ◌*◌, ◌≤◌, ◌<◌, length, get_or}
-use Rattle.std.proofs.Math.Logic.{inl, inr, ⊎_elim, Iff.trans, Iff.symm, Iff.and, Iff.rfl}
+use Rattle.std.proofs.Math.Logic.{inl, inr, ⊎_elim}
 use Rattle.std.proofs.Math.Decide.{ℕ_discrete, dec_le, dec_lt}
 use Rattle.std.proofs.Common.{arith, ne_eqb}
 use Rattle.ardenquill.specs.Chains.{row_of, work_of, Silents}

@@ -4,9 +4,9 @@
 --                            what C is told of them, and the state and the list that it has then
 --   FullAtFinish o           "the stopped list" at a finish
 --   rec_tick_stores          and what C's recording tick asks before it stores a state
+use Rattle.std.proofs.Math.Logic.Iff
 use Rattle.std.specs.Prelude.{◌≡◌, refl, true, ◌↔◌, ◌≢◌, ◌⊎◌, List, [], ◌∷◌, ℕ, zero, suc, get_or}
 use Rattle.std.proofs.Common.{ap, inl, inr, ⊎_elim, arith}
-use Rattle.std.proofs.Math.Logic.{Iff.trans, Iff.and, Iff.rfl}
 use Rattle.ardenquill.specs.Losses.{rec_tick_of, rec_at_of, rec_tick_answer, rec_run_answer}
 use Rattle.ardenquill.specs.RecFlat.{rec_kind_of, rec_coded, rec_flat, rec_moves, Moving, rec_moves_exactly}
 use Rattle.ardenquill.specs.Records.{Chain, Run, Losses, RecordOutcome, RecordClean, RecordNoDeadline, ListFull, RecordAnswer}

@@ -4,10 +4,11 @@
 --   Finds r N P              the check r says N at the lowest place that has P, and nothing where no place has
 --   Among n P L              L is a place of one of the kinds P 0, .. P (n - 1)
 --   finds_as, _then, _all    the same places said otherwise; one check and then another; so many checks in a row
+use Rattle.std.proofs.Math.Logic.Iff
 use Rattle.std.specs.Prelude.{◌≡◌, refl, ◌↔◌, ◌≢◌, ◌⊎◌, [], ◌∷◌}
 use Rattle.std.proofs.Common.{sym, subst, ◌∙◌, eq-or-lt_of_le, arith}
 use Rattle.std.proofs.Math.Path.{ap}
-use Rattle.std.proofs.Math.Logic.{inl, inr, ⊎_elim, Iff.trans}
+use Rattle.std.proofs.Math.Logic.{inl, inr, ⊎_elim}
 use Prim.Native.Nat.{ℕ, zero, suc, ◌<◌}
 use Rattle.ardenquill.specs.Chains.{refused, fine, or_else, first, Silent, or_says, or_silents, first_append, tab, tab_last}
 use Rattle.ardenquill.specs.Records.{Refusal}

@@ -22,9 +22,10 @@
 --                            when each is answered
 --   factory_fourteen, factory_when
 --                            when the factory refuses a number with 14, and when it does not
+use Rattle.std.proofs.Math.Logic.Iff
 use Rattle.std.specs.Prelude.{◌≡◌, refl, ◌↔◌, ◌≢◌, ◌⊎◌, List, [], ◌∷◌, ◌++◌, ℕ, zero, suc, ◌+◌, ◌*◌, ◌≤◌, ◌<◌, length, get_or}
 use Rattle.std.proofs.Common.{ap, ◌∙◌, arith}
-use Rattle.std.proofs.Math.Logic.{inl, inr, ⊎_elim, by_cases, Iff.trans, Iff.symm, Iff.and, Iff.rfl}
+use Rattle.std.proofs.Math.Logic.{inl, inr, ⊎_elim, by_cases}
 use Rattle.std.proofs.Math.Decide.{ℕ_discrete, dec_le, dec_lt}
 use borrow.Author.Tests.{lt-leb, eq-eqb}
 use Rattle.ardenquill.specs.Chains as chains

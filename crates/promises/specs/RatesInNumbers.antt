@@ -19,10 +19,11 @@
 --   checked-, fresh-, fire_begins and _record
 --                            a check for a run, a fresh start and a manual firing answer the numbers of the analysis exactly where it does, with its place (and so does every
 --                            run and deadline question, PlacesInNumbers, and a report of the chain that is read, ReportInColumns)
+use Rattle.std.proofs.Math.Logic.Iff
 use Rattle.std.specs.Prelude.{◌≡◌, ◌↔◌, ◌≢◌, ◌⊎◌, [], ◌∷◌}
 use Rattle.std.proofs.Math.Path.{refl, ap}
 use Rattle.std.proofs.Common.{sym, subst, ◌∙◌, arith}
-use Rattle.std.proofs.Math.Logic.{inl, inr, ⊎_elim, by_cases, Iff.trans, Iff.symm, Iff.rfl}
+use Rattle.std.proofs.Math.Logic.{inl, inr, ⊎_elim, by_cases}
 use Prim.Native.Nat.{ℕ, zero, suc, ◌+◌, ◌*◌, ◌/◌, ◌≤◌, ◌<◌, ◌∣◌}
 use Rattle.std.proofs.Math.Nat.{mul-div_cancel_left, mul-div_cancel', dvd-mul_right_of_dvd, dvd_antisymm, pos_of_dvd_of_pos}
 use Rattle.std.proofs.Math.Decide.{dec_le}

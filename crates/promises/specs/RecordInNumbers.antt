@@ -18,9 +18,10 @@
 --   RecordChecked c N P      a call that answers number N and place P says 2, 4 and 5 exactly so; record-passes: and none of them exactly where all is fine
 --   analyse-, write_record   the analysis and the writer do; write-room: and 10 of the writer. checked-as: so does every call that answers these numbers where one of them does
 --                            (RatesInNumbers and PlacesInNumbers: -begins, -record)
+use Rattle.std.proofs.Math.Logic.Iff
 use Rattle.std.specs.Prelude.{◌≡◌, refl, ◌↔◌, ◌≢◌, ◌⊎◌, List, [], ◌∷◌, length, get_or}
 use Rattle.std.proofs.Common.{inl, inr, ⊎_elim, add-zero, arith}
-use Rattle.std.proofs.Math.Logic.{by_cases, Iff.symm, Iff.trans, Iff.and, Iff.rfl}
+use Rattle.std.proofs.Math.Logic.{by_cases}
 use Prim.Native.Nat.{ℕ, zero, suc, ◌+◌, ◌*◌, ◌≤◌, ◌<◌}
 use Rattle.std.proofs.Math.Decide.{ℕ_discrete}
 use Rattle.ardenquill.specs.Chains.{Out, In, outside_true, outside_false, sum_iff, refused, or_else, first, Silent, Silents, or_says, or_silents}

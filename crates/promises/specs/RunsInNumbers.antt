@@ -13,10 +13,11 @@
 --   index_some, index_one    every node on the way has such an index, and one only
 --   IndexPasses c i k j, PassesFirst c i k L, deadline_thirteen, deadline_answered
 --                            it is above 4,294,967,295; N_L's is the first that is; when a question is refused 13; and when it is not refused
+use Rattle.std.proofs.Math.Logic.Iff
 use Rattle.std.specs.Prelude.{◌≡◌, ◌↔◌, ◌⊎◌}
 use Rattle.std.proofs.Math.Path.{refl, sym, ap, subst}
 use Rattle.std.proofs.Common.{◌∙◌}
-use Rattle.std.proofs.Math.Logic.{by_cases, Iff.trans, Iff.and, Iff.rfl}
+use Rattle.std.proofs.Math.Logic.{by_cases}
 use Prim.Native.Nat.{ℕ, zero, suc, ◌+◌, ◌-◌, ◌*◌, ◌/◌, ◌≤◌, ◌<◌}
 use Rattle.std.proofs.Math.Decide.{ℕ_discrete, dec_le, dec_lt}
 use native.Mathlib.Omega.{arith}

@@ -6,10 +6,10 @@
 --   GoodRecord c             n is 1 to 16, no word of c is out of its range, and no c above its τ (RecordInNumbers)
 --   write_when               when a chain is not refused (and when it is, and with which number and place: write_record, write_room, RecordInNumbers)
 --   write_exactly            and then it is written so
+use Rattle.std.proofs.Math.Logic.Iff
 use Rattle.std.specs.Prelude.{◌≡◌, ◌↔◌, List, [], ◌∷◌, ◌++◌, ℕ, zero, suc, ◌+◌, ◌-◌, ◌*◌, ◌/◌, ◌^◌, ◌≤◌, ◌<◌, length, get_or, take, drop}
 use Rattle.std.proofs.Math.Path.{sym}
 use Rattle.std.proofs.Common.{ap, ◌∙◌, mod-lt, arith, length-append, length-drop, get_or-append-add, get_or-drop, take_at}
-use Rattle.std.proofs.Math.Logic.{Iff.trans, Iff.and, Iff.rfl}
 use Rattle.std.proofs.Math.ListN.{get_or-append}
 use Rattle.ardenquill.specs.Chains.{Silent, row_of, work_of, none, slot_used, trimmed, Sound}
 use Rattle.ardenquill.specs.Files.{bytes_of, bytes_length, word_at_law, read_answer, packed_length, words, packed, packed_length_law, write_refusal, write_accepts, write_fine, Output, output_fine, read_of_write}

@@ -18,9 +18,9 @@
 --                              T ticks from s and l, as their calls answer: the first refusal, or the first outcome that is not clean, ends it
 --   rec_ticks_answer           T ticks within the limit answer what T ticks leave
 --   rec_run_by_ticks           so the run of T ticks answers what they do
+use Rattle.std.proofs.Math.Logic.Iff
 use Rattle.std.specs.Prelude.{◌≡◌, refl, ◌↔◌, ℕ, zero, suc, ◌+◌, ◌-◌, ◌≤◌, ◌<◌, length}
 use Rattle.std.proofs.Common.{sym, ap, subst, ◌∙◌, ⊎_elim, le_refl, le_trans, arith}
-use Rattle.std.proofs.Math.Logic.{Iff.trans}
 use Rattle.chain.specs.Refusals.{Silent}
 use Rattle.chain.specs.declared.Chain.{Chain}
 use Rattle.sizing.specs.Accepted.{Accepted}

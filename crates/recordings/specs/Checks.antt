@@ -17,9 +17,9 @@
 --   rec_tick_balance           a tick keeps the balance, whatever its outcome
 --   rec_tick_recording, rec_ticks_recording
 --                              a tick that does not find the list full leaves one, and so do so many
+use Rattle.std.proofs.Math.Logic.Iff
 use Rattle.std.specs.Prelude.{◌≡◌, ◌↔◌, ◌⊎◌, List, ℕ, suc, ◌+◌, ◌*◌, ◌≤◌, ◌<◌, get_or, eqb, leb, ltb}
 use Rattle.std.proofs.Common.{sym, ap, ap₂, ◌∙◌, ⊎_elim, add-zero, arith, eq-eqb}
-use Rattle.std.proofs.Math.Logic.{Iff.trans, Iff.and}
 use Rattle.words.specs.Table.{tab, tab_alike}
 use Rattle.chain.specs.Tests.{sum_iff}
 use Rattle.chain.specs.Refusals.{refused, fine, test, first, or_else, Silent, first_fine, or_says, or_silents, Only, only_or}

@@ -19,9 +19,9 @@
 --                              a silent refusal is fine
 --   rec_tick_ran, _refused     what a recording tick answers
 --   rec_run_ran, _refused      what a recording run answers
+use Rattle.std.proofs.Math.Logic.Iff
 use Rattle.std.specs.Prelude.{◌≡◌, ◌↔◌, ◌≢◌, ◌⊎◌, List, [], ◌∷◌, ◌++◌, ℕ, ◌≤◌, ◌<◌}
 use Rattle.std.proofs.Math.Path.{sym}
-use Rattle.std.proofs.Math.Logic.{Iff.trans, Iff.and, Iff.rfl}
 use Rattle.std.proofs.Common.{arith, ne_eqb}
 use Rattle.chain.specs.Refusals.{refused, fine, or_else, first_fine, Silent, Silents, Numbered, Others, number_of, said_earlier}
 use Rattle.chain.specs.declared.Refusal.{Refusal}

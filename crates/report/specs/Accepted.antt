@@ -4,10 +4,10 @@
 --   report_written   and then answers the report's length; the lent bytes become the report and, past it, stay as they were
 --   report_as_read, _analysed, _room
 --                    the call says what the reader says of the file; where that is nothing, what the analysis says of its chain; and where that is nothing, 10 or nothing
+use Rattle.std.proofs.Math.Logic.Iff
 use Rattle.std.specs.Prelude.{◌≡◌, true, ◌↔◌, ◌≢◌, List, ◌++◌, ℕ, ◌≤◌, length, drop}
 use Rattle.std.proofs.Math.Path.{refl, sym}
 use Rattle.std.proofs.Common.{◌∙◌, arith}
-use Rattle.std.proofs.Math.Logic.{Iff.trans}
 use Rattle.chain.specs.Tests.{below_false}
 use Rattle.chain.specs.Refusals.{fine, Silent, silent_as, first_fine, or_left, or_right, or_silents, test_silent}
 use Rattle.chain.specs.Sound.{sound}

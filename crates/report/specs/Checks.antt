@@ -6,9 +6,10 @@
 --                          when a file is refused with each number
 --   size_refusal f         what 6 and 7 refuse of the chain that f says
 --   report_parts           the reader speaks first, then 6 and 7, then 10
+use Rattle.std.proofs.Math.Logic.Iff
 use Rattle.std.specs.Prelude.{◌≡◌, ◌↔◌, List, [], ◌∷◌, ◌++◌, ℕ, ◌<◌, length, get_or, take}
 use Rattle.std.proofs.Common.{ap, ◌∙◌, arith}
-use Rattle.std.proofs.Math.Logic.{Iff.trans, Iff.and, Iff.rfl, true-and}
+use Rattle.std.proofs.Math.Logic.{true-and}
 use Rattle.chain.specs.Tests.{Out}
 use Rattle.chain.specs.Refusals.{Silents, Numbered, exact_at, refused, fine, first, or_else, first_append, numbered_append}
 use Rattle.chain.specs.Checks.{count_check, fields, FirstOut, FirstOver, count_exact, range_exact, order_exact}

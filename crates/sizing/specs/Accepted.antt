@@ -9,9 +9,9 @@
 --   SizeFits q, size_fits    the numbers of a queue's line: x and y up to the limit, minimum up to 131,069, naming count up to
 --                            65,535, capacity up to 1,000,000, and the margin between minus and plus a million
 --   busy_fits, cycle_fits    the load
+use Rattle.std.proofs.Math.Logic.Iff
 use Rattle.std.specs.Prelude.{◌≡◌, refl, Bool, true, false, cond, ◌↔◌, ℕ, zero, suc, ◌-◌, ◌≤◌, ◌<◌, ltb, pos, negsuc, nat_abs}
 use Rattle.std.proofs.Common.{sym, ap, ◌∙◌, le_trans, arith, ltb-true}
-use Rattle.std.proofs.Math.Logic.{Iff.trans, Iff.and, Iff.rfl}
 use Rattle.chain.specs.Refusals.{refused, first, Silent, Silents, silent_as, first_silent, first_fine, or_silents}
 use Rattle.chain.specs.Checks.{chain_refusal}
 use Rattle.chain.specs.Sound.{Sound, sound}

@@ -23,11 +23,12 @@
 --                              and speaks with its own number
 --   analyse_2 to analyse_7, run_8, run_earlier
 --                              when a chain is refused with each number
+use Rattle.std.proofs.Math.Logic.Iff
 use Rattle.std.specs.Prelude.{◌≡◌, refl, Bool, not, ◌||◌, ◌&&◌, ◌↔◌, ◌≢◌, ◌⊎◌, List, [], ◌∷◌, ◌++◌, eqb, get_or, take}
 use Rattle.std.proofs.Common.{sym, ◌∙◌, arith, le-ltb, eq-eqb}
 use Rattle.std.proofs.Math.Path.{ap}
 use Rattle.std.proofs.Math.Bool.{true, false, cond}
-use Rattle.std.proofs.Math.Logic.{⊎_elim, Iff.trans, Iff.and, Iff.rfl, true-and}
+use Rattle.std.proofs.Math.Logic.{⊎_elim, true-and}
 use Prim.Native.Nat.{ℕ, zero, suc, ◌+◌, ◌*◌, ◌^◌, ◌≤◌, ◌<◌}
 use Rattle.std.proofs.Math.Nat.{le_refl}
 use Rattle.std.proofs.Math.Dec.{ltb}

@@ -36,9 +36,10 @@
 --                              with the tokens that each queue lost, no more than a list can name
 --   lent_run, state_lent, state_lent_with
 --                              the state whose numbers are lent, which 17 is said of
+use Rattle.std.proofs.Math.Logic.Iff
 use Rattle.std.specs.Prelude.{◌≡◌, refl, Bool, true, false, not, ◌||◌, ◌&&◌, ◌↔◌, ◌≢◌, ◌⊎◌, List, ℕ, zero, suc, ◌+◌, ◌*◌, ◌≤◌, ◌<◌, ltb, leb, eqb, get_or, replicate}
 use Rattle.std.proofs.Common.{ap, ◌∙◌, inl, inr, zero-add, add-zero, arith, ne_eqb}
-use Rattle.std.proofs.Math.Logic.{⊎_elim, by_cases, Iff.trans, Iff.and, Iff.rfl}
+use Rattle.std.proofs.Math.Logic.{⊎_elim, by_cases}
 use Rattle.std.proofs.Math.Decide.{dec_lt}
 use Rattle.std.proofs.lemmas.Bool.{eqb-false}
 use Rattle.words.specs.Table.{tab, tab_alike}

@@ -13,10 +13,10 @@
 --   Firing c s i, firing_is    the same as a record, which the code of a manual firing asks
 --   fire_accepted, fire_refused
 --                              the state that it gives back
+use Rattle.std.proofs.Math.Logic.Iff
 use Rattle.std.specs.Prelude.{◌≡◌, ◌↔◌, ◌≢◌, ◌⊎◌, List, [], ◌∷◌, ◌++◌, ℕ, zero, suc, ◌+◌, ◌≤◌, ◌<◌, get_or, take}
 use Rattle.std.proofs.Math.Path.{refl}
 use Rattle.std.proofs.Common.{sym, eq-eqb, ne_eqb}
-use Rattle.std.proofs.Math.Logic.{Iff.trans, Iff.and, Iff.rfl}
 use native.Mathlib.Omega.{arith}
 use Rattle.chain.specs.Refusals.{refused, fine, first, or_else, first_append, Silent, Silents, or_silents, silent_as, first_silent, Numbered, exact_at, said_earlier, numbered_append}
 use Rattle.chain.specs.Record.{row_of}

@@ -3,9 +3,9 @@
 --   dued_none, _taken, _left, _end
 --                            at the start, with node j+1's deadline wanted and not wanted, and at the end
 --   dued_size, dued_dated    the number of queues, and what the deadline of N_(j+1) asks
+use Rattle.std.proofs.Math.Logic.Iff
 use Rattle.std.specs.Prelude.{◌≡◌, ◌≢◌, Bool, false, cond, ◌||◌, List, ℕ, suc, ◌+◌, ◌≤◌, ◌<◌, eqb, leb, length, set, replicate}
 use Rattle.std.proofs.Common.{sym, ap, ◌∙◌, ⊎_elim, add-one, arith, length-set, get_or-set_same, get_or-set_other, ne_eqb}
-use Rattle.std.proofs.Math.Logic.{Iff.rfl}
 use Rattle.std.proofs.lemmas.List.{length-replicate}
 use Rattle.std.proofs.lemmas.Bool.{eqb-false}
 use Rattle.words.specs.Table.{below_next}
