@@ -35,7 +35,7 @@ module _ (z : ℤ) (h : SFits w32 z) where
   back = to_z-of_z h
 
   wide_back : wide z ≡ z
-  wide_back = rw back (to_z-of_z {w64} (sfits_widen tt h))
+  wide_back = rw back (to_z-of_z {w = w64} (sfits_widen tt h))
 
   small : nat_abs z < 2 ^ 32
   small = omega (arith, nat_abs-le z h.sfits)

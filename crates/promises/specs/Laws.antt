@@ -183,7 +183,7 @@ module _ (c : Chain) (P : Run → ℕ → Type 0) where
 pub running_after : {c : Chain} {s : Run} → Running c s → (h : List ℕ) → Permitted c s h → Running c (after c s h)
 unfolding EachFiring after
 running_after r [] ok = r
-running_after {c} {s} r (i ∷ h) ok = let f : Firing c s i = (firing_is c s i).0 ok.0 in running_after (fired_running r i f.may.over f.may.room) h ok.1
+running_after {c} {s} r (i ∷ h) ok = let f : Firing c s i = (firing_is c s i).0 ok.0 in running_after {s = fired c s i} (fired_running r i f.may.over f.may.room) h ok.1
 
 -- a permitted order
 module _ (c : Chain) (h : List ℕ) (ok : Fires c h) where

@@ -110,7 +110,10 @@ module _ (f o p : List ℕ) (r : LengthAnswer) (w : Output (report_refusal f (le
     -- "Analysis checks also 6, 7": one whose chain analysing refuses is refused alike
     pub report_refused_analysis : let a = analyse_answer (read_answer f).chain in a.number ≢ 0 → (r ≡ record { number = a.number; place = a.place; length = 0 }) × (p ≡ o)
     unfolding analyse_answer sized
-    report_refused_analysis = rw chain_is (λ n. refuses (rw (report_as_analysed f (length o) quiet n) at w) n)
+    report_refused_analysis = subst
+        (λ (c : Chain). (analyse_answer c).number ≢ 0 → (r ≡ record { number = (analyse_answer c).number; place = (analyse_answer c).place; length = 0 }) × (p ≡ o))
+        (sym chain_is)
+        (λ n. refuses (rw (report_as_analysed f (length o) quiet n) at w) n)
 
     room_left : (analyse_answer (read_answer f).chain).number ≡ 0 → report_refusal f (length o) ≡ room_check (length (report_text f)) (length o)
     unfolding analyse_answer sized

@@ -195,7 +195,7 @@ marked_balance {c} k s slots (e ∷ h) fair j l x b =
 pub marked_within : {c : Chain} {s : Run} → Filled c s → (h : List Marked) → EachFair c s h → (j : ℕ) → j < c.n → held_at (rec_after c s h) j ≤ capacity_of (row_of c j)
 unfolding rec_after EachFair
 marked_within f [] fair j l = f.within j l
-marked_within {c} {s} f (e ∷ h) fair j l = marked_within (step e.1 fair.0.fits) h fair.1 j l
+marked_within {c} {s} f (e ∷ h) fair j l = marked_within {s = rec_step c s e} (step e.1 fair.0.fits) h fair.1 j l
   where
     step : (b : Bool) → (b ≡ false → Room c s e.0.1) → Filled c (cond b (dropped c s e.0.1) (fired c s e.0.1))
     step true fits = dropped_filled f e.0.1 fair.0.over

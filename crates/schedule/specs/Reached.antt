@@ -126,7 +126,7 @@ unfolding after EachFiring
 reached_along k [] r p = r
 reached_along {c} {s} k (i ∷ h) r p =
     let may = ((fire_accepts c s i).0 p.0).1.1 in
-    reached_along k h (reached_fired k r i may.node may.over) p.1
+    reached_along {s = fired c s i} k h (reached_fired k r i may.node may.over) p.1
 
 -- and so from a fresh start
 pub reached_after : {c : Chain} → Sound c → (h : List ℕ) → Permitted c (fresh_run c) h → Reached c (after c (fresh_run c) h)
