@@ -157,7 +157,7 @@ unfolding Taken run_after firings_from
 steps_replay {c} {s} r [] ok = (r, replays_none c s s refl refl)
 steps_replay {c} {s} r (x ∷ xs) ok =
     let slots : AllSlots s = all_slots r.whole in
-    let more = steps_replay (handed_out_running (step_out c s slots x ok.0)) xs ok.1 in
+    let more = steps_replay {s = step_run c s x} (handed_out_running (step_out c s slots x ok.0)) xs ok.1 in
     (more.0, replays_then c s (step_run c s x) (run_after c (step_run c s x) xs) (step_firings c s x) (firings_from c (step_run c s x) xs) (step_replays c s slots x ok.0) more.1)
 
 module _ (c : Chain) (xs : List Step) (ok : Mixes c xs) where
