@@ -101,7 +101,7 @@ row_lies q = refl
 
 -- struct ardenquill_chain
 pub chain_lies : (c : Chain) → chain c ≡ parts (word c.n ∷ word c.period ∷ parts (map row c.queues) ∷ parts (map word c.work) ∷ [])
-chain_lies c = ap₂ (λ (us ws : List Val). parts (word c.n ∷ word c.period ∷ parts us ∷ parts ws ∷ [])) (map-map _ _ c.queues) (map-map _ _ c.work)
+chain_lies c = refl
 
 -- struct ardenquill_queue_size: the naming count has 32 bits, too, and stands behind the minimum
 pub line_lies : (q : QueueSize) → line q ≡ parts (map word (q.x ∷ q.y ∷ q.minimum ∷ q.by ∷ q.capacity ∷ of_z w32 q.margin ∷ []))
@@ -109,11 +109,11 @@ line_lies q = refl
 
 -- struct ardenquill_analysis
 pub analysis_lies : (a : Analysis) → analysis a ≡ parts (word a.n ∷ parts (map line a.queues) ∷ word a.busy ∷ word a.cycle ∷ [])
-analysis_lies a = ap (λ (us : List Val). parts (word a.n ∷ parts us ∷ word a.busy ∷ word a.cycle ∷ [])) (map-map _ _ a.queues)
+analysis_lies a = refl
 
 -- struct ardenquill_run
 pub run_lies : (s : Run) → run s ≡ parts (word s.clock ∷ parts (map word s.counts) ∷ parts (map word s.held) ∷ parts (map word s.done) ∷ [])
-run_lies s = λ k. parts (word s.clock ∷ parts (words s.counts k) ∷ parts (words s.held k) ∷ parts (words s.done k) ∷ [])
+run_lies s = refl
 
 -- struct ardenquill_loss
 pub loss_lies : (e : Loss) → loss e ≡ parts (map word (e.tick ∷ e.queue ∷ e.tokens ∷ []))
@@ -121,7 +121,7 @@ loss_lies e = refl
 
 -- struct ardenquill_losses
 pub losses_lies : (l : Losses) → losses l ≡ parts (word l.count ∷ parts (map loss l.entries) ∷ [])
-losses_lies l = ap (λ (es : List Val). parts (word l.count ∷ parts es ∷ [])) (map-map _ _ l.entries)
+losses_lies l = refl
 
 -- the answers, each with number and place in front
 pub chain_answer_lies : (a : ChainAnswer) → val chainAnswerType chainAnswerLaws a ≡ parts (word a.number ∷ word a.place ∷ chain a.chain ∷ [])
