@@ -1,5 +1,5 @@
 -- `state::effect` meets its contract: p goes into the output queue, then c leaves the input queue, and the count has grown.
-use Rattle.std.proofs.Common.{◌≡◌, refl, ◌∙◌, ⊎_elim, ◌≢◌, ℕ, zero, suc, ◌+◌, ◌-◌, ◌≤◌, ◌<◌, arith, get_or, set, List, Fits, w32, lt-ltb, le-ltb, rules}
+use Rattle.std.proofs.Common.{◌≡◌, refl, ◌∙◌, ◌≢◌, ℕ, zero, suc, ◌+◌, ◌-◌, ◌≤◌, ◌<◌, arith, get_or, set, List, Fits, w32, lt-ltb, le-ltb, rules}
 use Rattle.chain.specs.Record.{row_of}
 use Rattle.chain.specs.declared.Chain.{Chain}
 use Rattle.sizing.specs.Sizes.{capacity_most}
@@ -9,7 +9,7 @@ use Rattle.state.specs.Fire.{Firing}
 use Rattle.state.specs.declared.Run.{Run}
 use Rattle.state.proofs.Slots.{few, node, node_word, input, input_word, input_row, queue, word, row}
 use Rattle.state.proofs.effect.Goals as goal
-use Rattle.state.proofs.effect.Goals.{Joined-i-chain}
+use Rattle.state.proofs.effect.Goals.{Joined-i-chain, then-i-chain, else-i-chain}
 
 -- the state where the two ways of the production meet
 abbrev half : Chain → Run → ℕ → Run
@@ -20,7 +20,7 @@ withHeld r h = record { clock = r.clock; counts = r.counts; held = h; done = r.d
 
 mid : (c : Joined-i-chain) → c.if-i-chain.s ≡ half c.args.chain c.args.run c.args.i
 unfolding produced
-mid c = ⊎_elim (λ w. w.2 ∙ simp (lt-ltb _ _ w.0.taken)) (λ w. w.1 ∙ simp (le-ltb _ _ w.0.left)) c.if-i-chain.branch  -- LEFT an elim on .branch: the cases are named now
+mid c = elim c.if-i-chain.branch [ then-i-chain w ↦ w.s-is ∙ simp (lt-ltb _ _ w.if-i-chain.true) | else-i-chain w ↦ w.s-is ∙ simp (le-ltb _ _ w.if-i-chain.false) ]
 
 -- the input queue, which the production leaves alone, holds what is taken
 takes : {c : Chain} {s : Run} (i : ℕ) → Firing c s i → 0 < i → (row_of c (i - 1)).consume ≤ held_at s (i - 1)

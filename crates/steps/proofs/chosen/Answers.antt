@@ -1,7 +1,7 @@
 -- `steps::chosen`: the goals that the check leaves, with the invariant of `Invariants.antt`.
-use Rattle.std.proofs.Common.{⊎_elim, ◌-◌}
 use Rattle.steps.specs.Scans.{chosen_none, chosen_taken, chosen_under, chosen_later, chosen_end}
 use Rattle.steps.proofs.chosen.Goals as goal
+use Rattle.steps.proofs.chosen.Goals.{then-flow-j+then-due-j, then-flow-j+else-due-j, else-flow-j}
 
 pub loop-j-init : goal.loop-j-init
 loop-j-init c = chosen_none _ _
@@ -10,9 +10,11 @@ pub loop-j-preserved : goal.loop-j-preserved
 loop-j-preserved c =
     let inv = c.loop-j.invariant in
     let test = c.loop-j-test.true in
-    ⊎_elim (λ w. rw (w.4, w.5) (chosen_taken inv test w.0.taken w.2.taken))
-    (⊎_elim (λ w. rw (w.3, w.4) (chosen_later inv test w.2.left)) (λ w. rw (w.1, w.2) (chosen_under inv test w.0.left)))
-    c.if-flow-j.branch  -- LEFT an elim on .branch: the cases are named now
+    elim c.if-flow-j.branch [
+      | then-flow-j+then-due-j w ↦ rw (w.node-is, w.earliest-is) (chosen_taken inv test w.if-flow-j.true w.if-due-j.true)
+      | then-flow-j+else-due-j w ↦ rw (w.node-is, w.earliest-is) (chosen_later inv test w.if-due-j.false)
+      | else-flow-j w ↦ rw (w.node-is, w.earliest-is) (chosen_under inv test w.if-flow-j.false)
+    ]
 
 pub returns : goal.returns
 returns c = chosen_end c.loop-j.invariant c.loop-j-test.false
