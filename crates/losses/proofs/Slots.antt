@@ -14,4 +14,4 @@ pub has_slots : {X Y : Type 0} {n : ℕ} (f : X → Y) (xs : List X) → length 
 has_slots f xs e = sym (length-map xs f) ∙ e
 
 pub list_slots : (l : Losses) → Is M.the_row l (vals M.the_type M'.the_laws l) → length l.entries ≡ 256
-list_slots l was = has_slots _ l.entries (owed M.the_type M'.the_laws l _ was).1.0.1.0.1
+list_slots l was = (owed M.the_type M'.the_laws l _ was).1.0.1.0.1
