@@ -1,5 +1,5 @@
 -- `report::write_text` meets its contract: the text goes straight into the lent bytes, or by its own buffer.
-use Rattle.std.proofs.Common.{rules, arith, sym, ◌≤◌, length, length-take-le}
+use Rattle.std.proofs.Common.{◌≤◌, length, arith}
 use Rattle.words.specs.Put.{taken}
 use Rattle.chainfile.proofs.Writing.{output_done, room_enough}
 use Rattle.reporttext.specs.Text.{text_of}
@@ -8,17 +8,8 @@ use Rattle.report.proofs.write_text.Goals as goal
 pub returns-then-out-ge-LONGEST_REPORT : goal.returns-then-out-ge-LONGEST_REPORT
 returns-then-out-ge-LONGEST_REPORT c =
     let p = c.put_text.ensures in
-    let a = c.args in
-    let fits : length (text_of a.analysis) ≤ length a.out.now = omega (arith, p.0.next) in
+    let fits : length (text_of c.args.analysis) ≤ length c.args.out.now = omega (arith, p.0.next) in
     output_done (room_enough _ _ fits) fits p.0 c.written.ensures
-
-pub slice_bounds-copy_text-end : goal.slice_bounds-copy_text-end
-slice_bounds-copy_text-end c = sym (length-take-le _ _ (search rules))
-
-pub copy_text-requires : goal.copy_text-requires
-copy_text-requires c =
-    let p = c.put_text-end.ensures in
-    rw (taken p.0 p.1) (record { bytes = omega arith })
 
 pub returns : goal.returns
 returns c =

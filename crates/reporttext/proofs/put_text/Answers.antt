@@ -6,5 +6,7 @@ use Rattle.reporttext.proofs.put_text.Goals as goal
 
 pub returns : goal.returns
 unfolding text_of busy_line
-returns c =
-    (then c.put_bytes-a.ensures (then c.put_lines-b.ensures.0 (then c.put_bytes-c.ensures (then c.put_column-d.ensures.0 c.put_column.ensures.0))), omega arith)
+returns c = (
+  then c.put_bytes-a.ensures (then c.put_lines-b.ensures.0 (then c.put_bytes-c.ensures (then c.put_column-d.ensures.0 c.put_column.ensures.0))),
+  omega arith,
+)

@@ -1,4 +1,0 @@
-pub mod Taking
-pub mod Reading
-pub mod Calling
-pub mod Elements
