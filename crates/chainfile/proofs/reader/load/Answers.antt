@@ -1,5 +1,5 @@
 -- `chainfile::reader::load` meets its contract: each turn moves both readers on and fills one slot, and behind the last row the record is what the file says.
-use Rattle.std.proofs.Common.{◌≡◌, ℕ, ◌<◌, ◌≤◌, List, ap, ◌∙◌, Bor, arith}
+use Rattle.std.proofs.Common.{ℕ, ◌<◌, ◌≤◌, List, ap, ◌∙◌, Bor, arith}
 use Rattle.words.specs.Words.{word_at}
 use Rattle.words.specs.Rows.{row_at}
 use Rattle.words.specs.declared.ChainReader.{ChainReader}
