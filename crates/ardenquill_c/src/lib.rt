@@ -12,7 +12,7 @@ ghost use Rattle.ardenquill.specs.Immediate.{immediate_answer};
 ghost use Rattle.ardenquill.specs.Deadlines.{deadline_answer};
 ghost use Rattle.ardenquill.specs.Ticks.{tick_answer, deadline_run_answer};
 ghost use Rattle.ardenquill.specs.Flat.{coded, flat};
-ghost use Rattle.recordings.specs.Answers.{rec_run_answer};
+ghost use Rattle.ardenquill.specs.Losses.{rec_run_answer};
 ghost use Rattle.ardenquill.specs.RecFlat.{rec_flat, RecLeaves};
 
 use ardenquill::{
