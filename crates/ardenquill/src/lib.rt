@@ -67,48 +67,42 @@ pub struct OutcomeRecording {
 }
 
 // The chain of a file, or the first of 1 to 5 that refuses it.
-#[unsafe(no_mangle)]
-pub extern "C" fn ardenquill_read(file: &[u8]) -> ChainAnswer
+pub fn ardenquill_read(file: &[u8]) -> ChainAnswer
     ensures { result ≡ read_answer file.now }
 {
     read(file)
 }
 
 // The packed file of a chain at the front of the lent bytes, or the first of 2, 4, 5 and 10 that refuses it.
-#[unsafe(no_mangle)]
-pub extern "C" fn ardenquill_write(chain: Chain, out: &mut [u8]) -> LengthAnswer
+pub fn ardenquill_write(chain: Chain, out: &mut [u8]) -> LengthAnswer
     ensures { Output (write_refusal chain (length out.old)) (packed chain) out.old out.new result }
 {
     write(chain, out)
 }
 
 // The factory chain of a number, or 14.
-#[unsafe(no_mangle)]
-pub extern "C" fn ardenquill_factory(number: u32) -> ChainAnswer
+pub fn ardenquill_factory(number: u32) -> ChainAnswer
     ensures { result ≡ factory_answer number }
 {
     factory(number)
 }
 
 // The analysis of a chain, or the first of 2, 4, 5, 6 and 7 that refuses it.
-#[unsafe(no_mangle)]
-pub extern "C" fn ardenquill_analyse(chain: Chain) -> AnalysisAnswer
+pub fn ardenquill_analyse(chain: Chain) -> AnalysisAnswer
     ensures { result ≡ analyse_answer chain }
 {
     analyse(chain)
 }
 
 // The report of a file at the front of the lent bytes, or the first of 1 to 7 and 10 that refuses it.
-#[unsafe(no_mangle)]
-pub extern "C" fn ardenquill_report(file: &[u8], out: &mut [u8]) -> LengthAnswer
+pub fn ardenquill_report(file: &[u8], out: &mut [u8]) -> LengthAnswer
     ensures { Output (report_refusal file.now (length out.old)) (report_text file.now) out.old out.new result }
 {
     report(file, out)
 }
 
 // A fresh start of a chain, or the first of 2, 4, 5, 6 and 7 that refuses it.
-#[unsafe(no_mangle)]
-pub extern "C" fn ardenquill_fresh(chain: Chain) -> RunAnswer
+pub fn ardenquill_fresh(chain: Chain) -> RunAnswer
     ensures { result ≡ fresh_answer chain }
 {
     fresh(chain)
@@ -116,8 +110,7 @@ pub extern "C" fn ardenquill_fresh(chain: Chain) -> RunAnswer
 
 // One manual firing: the state after it, or the state as it was with the first of 2, 4, 5, 6, 7, 17, 9, 11 and 12 that
 // refuses it.
-#[unsafe(no_mangle)]
-pub extern "C" fn ardenquill_fire(chain: Chain, run: Run, node: u32) -> RunAnswer
+pub fn ardenquill_fire(chain: Chain, run: Run, node: u32) -> RunAnswer
     ensures { result ≡ fire_answer chain run node }
 {
     run.fire(chain, node)
@@ -125,16 +118,14 @@ pub extern "C" fn ardenquill_fire(chain: Chain, run: Run, node: u32) -> RunAnswe
 
 // The state after an immediate run of k source firings from a fresh start, or the first of 2, 4, 5, 6, 7, 8 and 9 that
 // refuses it.
-#[unsafe(no_mangle)]
-pub extern "C" fn ardenquill_immediate(chain: Chain, k: u32) -> RunAnswer
+pub fn ardenquill_immediate(chain: Chain, k: u32) -> RunAnswer
     ensures { result ≡ immediate_answer chain k }
 {
     immediate(chain, k)
 }
 
 // The deadline of a node's firing of this index, or the first of 2, 4, 5, 6, 7, 8, 11 and 13 that refuses the question.
-#[unsafe(no_mangle)]
-pub extern "C" fn ardenquill_deadline(chain: Chain, node: u32, index: u32) -> DeadlineAnswer
+pub fn ardenquill_deadline(chain: Chain, node: u32, index: u32) -> DeadlineAnswer
     ensures { result ≡ deadline_answer chain node index }
 {
     deadline(chain, node, index)
@@ -142,8 +133,7 @@ pub extern "C" fn ardenquill_deadline(chain: Chain, node: u32, index: u32) -> De
 
 // One tick of the state that the controller lends: how it ended, the state being the one after it; or the first of 2, 4, 5, 6,
 // 7, 8, 17 and 9 that refuses it. Only a clean tick stores, since any other leaves the state as it was.
-#[unsafe(no_mangle)]
-pub extern "C" fn ardenquill_tick(chain: &Chain, run: &mut Run) -> OutcomeAnswer
+pub fn ardenquill_tick(chain: &Chain, run: &mut Run) -> OutcomeAnswer
     ensures { (run.new ≡ (tick_answer chain.now run.old).run) × (result ≡ coded (tick_answer chain.now run.old)) }
 {
     let answer = tick(*chain, *run);
@@ -156,8 +146,7 @@ pub extern "C" fn ardenquill_tick(chain: &Chain, run: &mut Run) -> OutcomeAnswer
 
 // How a deadline run of so many ticks from a fresh start ended and the state that it left, or the first of 2, 4, 5, 6, 7, 8
 // and 9 that refuses it.
-#[unsafe(no_mangle)]
-pub extern "C" fn ardenquill_deadline_run(chain: Chain, ticks: u32) -> OutcomeRun
+pub fn ardenquill_deadline_run(chain: Chain, ticks: u32) -> OutcomeRun
     ensures { result ≡ flat (deadline_run_answer chain ticks) }
 {
     flattened(deadline_run(chain, ticks))
@@ -166,12 +155,7 @@ pub extern "C" fn ardenquill_deadline_run(chain: Chain, ticks: u32) -> OutcomeRu
 // One recording tick of the state and the list that the controller lends: how it ended, the two being those after it; or the
 // first of 2, 4, 5, 6, 7, 17 and 9 that refuses it. The state is stored only where it has moved and the list, which is long, only
 // where it has grown, since any other tick leaves them as they were.
-#[unsafe(no_mangle)]
-pub extern "C" fn ardenquill_recording_tick(
-    chain: &Chain,
-    run: &mut Run,
-    losses: &mut Losses,
-) -> OutcomeAnswer
+pub fn ardenquill_recording_tick(chain: &Chain, run: &mut Run, losses: &mut Losses) -> OutcomeAnswer
     ensures { RecLeaves chain.now run.old losses.old run.new losses.new result }
 {
     let list = *losses;
@@ -188,8 +172,7 @@ pub extern "C" fn ardenquill_recording_tick(
 
 // How a recording run of so many ticks from a fresh start ended and the state and the list that it left, or the first of 2, 4,
 // 5, 6, 7 and 9 that refuses it.
-#[unsafe(no_mangle)]
-pub extern "C" fn ardenquill_recording_run(chain: Chain, ticks: u32) -> OutcomeRecording
+pub fn ardenquill_recording_run(chain: Chain, ticks: u32) -> OutcomeRecording
     ensures { result ≡ rec_flat (rec_run_answer chain ticks) }
 {
     rec_flattened(recording_run(chain, ticks))

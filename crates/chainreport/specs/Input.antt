@@ -2,6 +2,7 @@
 --   longest_file     the longest file that 1 lets pass
 --   LetPass m        a file of m bytes that 1 lets pass
 --   longest_passes   there is one of that length; of longer ones there is none (prints_too_long)
+--   IsPrefixLen n b  n of the bytes b stand at its front, and no more than there are
 --   Holds i b n      the first n of the bytes b are what b has room for of the input i
 --   Answers b n t    the text t is what is to be printed of every input that b holds so
 --   prints_too_long  of an input above that length the line of 1 at 0 is printed
@@ -41,6 +42,10 @@ longest_passes = record { file = f; long = refl; not_1 = (header_known f).1 (rec
 
     words : Header f 0 0 0 0 4096
     words = record { count = word 0 (omega arith); period = word 4 (omega arith); queues = word 8 (omega arith); nodes = word 12 (omega arith); total = word 16 (omega arith) }
+
+-- `&b[..n]` is in bounds and has n bytes
+abbrev pub IsPrefixLen : ℕ → List ℕ → Type 0
+IsPrefixLen n b = (n ≤ length b) × (n ≡ length (take n b))
 
 -- the whole input, or as much of it as fills b
 abbrev pub Holds : List ℕ → List ℕ → ℕ → Type 0

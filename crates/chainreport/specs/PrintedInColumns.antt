@@ -5,7 +5,7 @@
 --   prints_as_read, prints_as_analysed, prints_as_reported
 --                          the line of the reader's refusal; else of the analysis'; else the report
 use Rattle.std.specs.Prelude.{◌≡◌, refl, cond, ◌≢◌, List, eqb}
-use Rattle.std.proofs.Math.Path.{sym, ap}
+use Rattle.std.proofs.Math.Path.{sym, ap, subst}
 use Rattle.std.proofs.Common.{◌∙◌, le_refl, arith, eq-eqb, ne_eqb, le-ltb}
 use Prim.Native.Nat.{ℕ, ◌+◌}
 use Rattle.std.proofs.Math.ListN.{length}
@@ -48,7 +48,10 @@ module _ (f : List ℕ) where
     -- the analysis'
     pub prints_as_analysed : let a = analyse_answer (read_answer f).chain in a.number ≢ 0 → IsRefusal a.number a.place (printed f)
     unfolding analyse_answer sized
-    prints_as_analysed = rw chain_is (λ n. rw (printed_by (sym (report_roomy f longest_report (le_refl _)) ∙ report_as_analysed f longest_report quiet n)) (refusing f (analyse_refusal (chain_of f)) n))
+    prints_as_analysed = subst Is (sym chain_is) (λ n. rw (printed_by (sym (report_roomy f longest_report (le_refl _)) ∙ report_as_analysed f longest_report quiet n)) (refusing f (analyse_refusal (chain_of f)) n))
+      where
+        Is : Chain → Type 0
+        Is c = (analyse_answer c).number ≢ 0 → IsRefusal (analyse_answer c).number (analyse_answer c).place (printed f)
 
     -- and else the report
     pub prints_as_reported : (analyse_answer (read_answer f).chain).number ≡ 0 → IsReport (analyse_answer (read_answer f).chain).analysis (printed f)

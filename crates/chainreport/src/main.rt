@@ -1,28 +1,49 @@
 // The report program: reads a chain file from standard input and prints its report, or the line of its refusal.
-// No contract can say what the system reads or writes. So `read` and `print` are one call each, and ask of `main` that
-// the bytes lent to them are the right ones.
+// No contract can say what the system reads or writes. So `respond` is the program over any reader and any writer, whose
+// bytes a contract can name, and `main` hands it the system's.
 #![tactic(auto)]
 
-ghost use Rattle.std.specs.Prelude.{◌≤◌, ◌<◌, length, take};
-ghost use Rattle.io.specs.Counts.{IsPrefixLen};
+ghost use Rattle.std.specs.Prelude.{◌≤◌, ◌<◌, length, take, IfOk, IfSome, OnOk};
+ghost use Rattle.std.specs.Io.KnownBytes.{Appends};
 ghost use Rattle.ardenquill.specs.Reports.{longest_report};
-ghost use Rattle.chainreport.specs.Input.{longest_file, Answers};
+ghost use Rattle.chainreport.specs.Printed.{printed};
+ghost use Rattle.chainreport.specs.Input.{longest_file, IsPrefixLen, Holds, Answers};
 
-fn main() {
-    let mut file = [0u8; 4097];
-    let n = read(&mut file);
-    let mut text = [0u8; ardenquill::LONGEST_REPORT];
-    let end = answer(&file, n, &mut text);
-    print(&file, n, &text[..end]);
+use std::io;
+use std::io::{Read, Write};
+
+fn main(rt: HostRuntime) -> io::Result<()> {
+    respond(&mut rt.stdin(), &mut rt.stdout())
 }
 
-// Reads standard input to its end or until `file` is full, and answers how many bytes it put at the front of `file`.
-// One byte more than the longest file shows that the input is too long.
-fn read(file: &mut [u8]) -> usize
-    requires { longest_file < length file.old }
-    ensures { IsPrefixLen result file.new }
+// Reads a chain file from `input` and prints its report, or the line of its refusal, to `output`. A read or a write that
+// fails ends it with that error.
+fn respond<R: Read, W: Write>(input: &mut R, output: &mut W) -> io::Result<()>
+    ensures { OnOk result (IfSome (R.remaining input.old) (λ i. Appends (W.contents output.old) (W.contents output.new) (printed i))) }
 {
-    io::read_full(0, file)
+    let mut file = [0u8; 4097];
+    let n = read(input, &mut file)?;
+    let mut text = [0u8; ardenquill::LONGEST_REPORT];
+    let end = answer(&file, n, &mut text);
+    print(&file, n, &text[..end], output)
+}
+
+// Reads the input to its end or until `file` is full, and answers how many bytes it put at the front of `file`.
+// One byte more than the longest file shows that the input is too long.
+fn read<R: Read>(input: &mut R, file: &mut [u8]) -> io::Result<usize>
+    requires { longest_file < length file.old }
+    ensures prefix_len { IfOk result (λ n. IsPrefixLen n file.new) }
+    ensures holds { IfOk result (λ n. IfSome (R.remaining input.old) (λ i. Holds i file.new n)) }
+{
+    let mut end = 0;
+    while end < file.len() {
+        let n = input.read(&mut file[end..])?;
+        if n == 0 {
+            break;
+        }
+        end += n;
+    }
+    Ok(end)
 }
 
 // Makes what is to be printed of the input, of which `file` holds n bytes, at the front of `text`, and answers its length.
@@ -43,8 +64,9 @@ fn answer(file: &[u8], n: usize, text: &mut [u8]) -> usize
 
 // Prints `text`. The bytes that were read are parameters for the contract's sake alone: it asks that `text` is what is
 // to be printed of them.
-fn print(file: &[u8], n: usize, text: &[u8])
+fn print<W: Write>(file: &[u8], n: usize, text: &[u8], output: &mut W) -> io::Result<()>
     requires { Answers file.now n text.now }
+    ensures { OnOk result (Appends (W.contents output.old) (W.contents output.new) text.now) }
 {
-    io::write_all(1, text);
+    output.write_all(text)
 }
