@@ -10,11 +10,15 @@ pub use Rattle.chain.specs.Refusals.{or_silents, first_append, all_silent, test_
 unfoldable pub use Rattle.chain.specs.Refusals.{Silents, Numbered, first}
 pub use Rattle.chain.specs.Record.{row_of, work_of, empty_chain, refused_alike, answered_fine, same_chain}
 unfoldable pub use Rattle.chain.specs.Record.{trimmed, answered}
-pub use Rattle.chain.specs.Checks.{Field, field, ticks, fields, row_values, row_places, count_check, out_of_range, range_check, overdrawn, record_range}
-pub use Rattle.chain.specs.Checks.{record_order, chain_checks, chain_refusal, FieldOut, FieldIn, field_at, FirstOut, FirstOver, record_2, record_4}
-pub use Rattle.chain.specs.Checks.{record_5, chain_numbers, chain_numbered, count_silent, row_silent, range_exact, order_exact, range_only, order_only}
+pub use Rattle.chain.specs.Checks.{Field, field, ticks, fields, count_check, out_of_range, range_check, overdrawn, record_range}
+pub use Rattle.chain.proofs.ChecksLaws.{row_values, row_places}
+pub use Rattle.chain.specs.Checks.{record_order, chain_checks, chain_refusal, FieldOut, FieldIn, field_at, FirstOut, FirstOver}
+pub use Rattle.chain.proofs.ChecksLaws.{record_2, record_4}
+pub use Rattle.chain.specs.Checks.{chain_numbers}
+pub use Rattle.chain.proofs.ChecksLaws.{record_5, chain_numbered, count_silent, row_silent, range_exact, order_exact, range_only, order_only}
 unfoldable pub use Rattle.chain.specs.Checks.{row_fields, order_check}
-pub use Rattle.chain.specs.Sound.{SoundRow, Sound, sound, sound_is, node_range, range_parts}
+pub use Rattle.chain.specs.Sound.{SoundRow, Sound, node_range}
+pub use Rattle.chain.proofs.SoundLaws.{sound, sound_is, range_parts}
 unfoldable pub use Rattle.chain.specs.Sound.{row_range}
 pub use Rattle.chain.specs.Factory.{queue, made, factory_chains, factory_check, factory_exact, trimmed_factory}
 unfoldable pub use Rattle.chain.specs.Factory.{factory_refusal, factory_answer}

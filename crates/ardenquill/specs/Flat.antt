@@ -14,9 +14,9 @@ use Rattle.state.specs.declared.Run.{Run}
 use Rattle.slots.specs.Runs.{Whole}
 use Rattle.instants.specs.Steps.{kind_of, tick_of, at_of}
 use Rattle.instants.specs.Checks.{outcome_of, tick_answer}
-use Rattle.instants.specs.Refusals.{tick_refused}
-use Rattle.instants.specs.Exactly.{one_stays}
-use Rattle.instants.specs.Answers.{answer_one}
+use Rattle.instants.proofs.RefusalsLaws.{tick_refused}
+use Rattle.instants.proofs.ExactlyLaws.{one_stays}
+use Rattle.instants.proofs.AnswersLaws.{answer_one}
 use Rattle.instants.specs.declared.Outcome.{Outcome}
 use Rattle.instants.specs.declared.Outcome.TheVariants.{Clean, Overflowed, NoDeadline}
 use Rattle.instants.specs.declared.TickAnswer.{TickAnswer}

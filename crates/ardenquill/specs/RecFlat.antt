@@ -21,11 +21,11 @@ use Rattle.slots.specs.Runs.{Whole}
 use Rattle.losses.specs.Losses.{extends_same}
 use Rattle.losses.specs.declared.Losses.{Losses}
 use Rattle.recordings.specs.Steps.{rec_number_of, rec_tick_of, rec_at_of, rec_tick}
-use Rattle.recordings.specs.Kept.{tick_leads}
+use Rattle.recordings.proofs.KeptLaws.{tick_leads}
 use Rattle.recordings.specs.Checks.{Recording, recording_filled}
-use Rattle.recordings.specs.Exactly.{rec_is_one, rec_one_lacks_stays, rec_one_full_stays}
+use Rattle.recordings.proofs.ExactlyLaws.{rec_is_one, rec_one_lacks_stays, rec_one_full_stays}
 use Rattle.recordings.specs.Answers.{rec_tick_refusal, rec_tick_answer}
-use Rattle.recordings.specs.RecRefusals.{rec_tick_accepts, rec_tick_ran, rec_tick_refused}
+use Rattle.recordings.proofs.RecRefusalsLaws.{rec_tick_accepts, rec_tick_ran, rec_tick_refused}
 use Rattle.recordings.specs.declared.RecordOutcome.{RecordOutcome}
 use Rattle.recordings.specs.declared.RecordOutcome.TheVariants.{Clean, NoDeadline, ListFull}
 use Rattle.recordings.specs.declared.RecordAnswer.{RecordAnswer}

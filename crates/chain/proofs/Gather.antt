@@ -12,8 +12,10 @@ use Rattle.chain.specs.Tests.{outside, In, outside_false, below_false}
 use Rattle.chain.specs.Refusals.{fine, test, first, or_else, Silent, first_fine, first_append, first_last, test_alone, all_silent}
 use Rattle.chain.specs.Record.{row_of, work_of}
 use Rattle.chain.specs.Checks.{ticks, out_of_range, row_fields, overdrawn, field_silent}
-use Rattle.chain.specs.Sound.{row_range, node_range, SoundRow, row_sound}
-use Rattle.chain.specs.Faults.{fine_row, fine_row_law, AllFine, FineRows, no_faults, with_row, faults_of}
+use Rattle.chain.specs.Sound.{row_range, node_range, SoundRow}
+use Rattle.chain.proofs.SoundLaws.{row_sound}
+use Rattle.chain.specs.Faults.{fine_row, AllFine, FineRows, no_faults, with_row, faults_of}
+use Rattle.chain.proofs.FaultsLaws.{fine_row_law}
 use Rattle.chain.specs.declared.Refusal.{Refusal}
 use Rattle.chain.specs.declared.Chain.{Chain}
 use Rattle.chain.specs.declared.checks.Faults.{Faults}

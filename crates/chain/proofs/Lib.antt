@@ -1,1 +1,5 @@
 pub mod Gather
+pub mod ChecksLaws
+pub mod FaultsLaws
+pub mod RefusalsLaws
+pub mod SoundLaws

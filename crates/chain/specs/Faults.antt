@@ -4,7 +4,6 @@
 --   no_faults, with_row f q at e to  no row looked at yet, and one more: a queue row at `at` and its node row at `to`
 --   faults_of row e q w i           what is refused of the first i rows
 --   settled y f                     4 of the period and of the rows, then 5
---   settled_is                      which is what the two checks say
 --   Few n, FineRows c k, TablesAt n q w, RowPlace at
 --                                   what the code of the pass asks: few rows, the first k of them fine, at places of a file
 use Rattle.std.proofs.Math.Logic.Iff
@@ -16,7 +15,7 @@ use Rattle.chain.specs.Tests.{In, upto_true, equal_true, and_true}
 use Rattle.chain.specs.Refusals.{fine, first, or_else, first_last}
 use Rattle.chain.specs.Record.{row_of, work_of}
 use Rattle.chain.specs.Checks.{ticks, out_of_range, overdrawn, range_check, order_check}
-use Rattle.chain.specs.Sound.{row_range, node_range, range_parts, SoundRow}
+use Rattle.chain.specs.Sound.{row_range, node_range, SoundRow}
 use Rattle.chain.specs.declared.Refusal.{Refusal}
 use Rattle.chain.specs.declared.Chain.{Chain}
 use Rattle.chain.specs.declared.checks.Faults.{Faults}
@@ -33,14 +32,6 @@ fine_row q e =
     && eqb q.reserved 0
     && leb 1 e
     && leb e 1000000
-
-pub fine_row_law : (q : Queue) (e : ℕ) → (fine_row q e ≡ true) ↔ (SoundRow q × In 1 1000000 e)
-fine_row_law q e = Iff.trans
-    (and_true (and_true (and_true (and_true (and_true (and_true (and_true (and_true (upto_true _ _) (upto_true _ _)) (upto_true _ _)) (upto_true _ _)) (upto_true _ _))
-    (upto_true _ _)) (equal_true _ _)) (upto_true _ _)) (upto_true _ _)) (
-      λ (((((((p, t), c), o), b), r), k), k'). (record { produce = p; threshold = (omega arith, t); consume = (c, omega arith); capacity = b; reserved = r; order = o }, (k, k')),
-      λ (s, k). (((((((s.produce, s.threshold.1), s.consume.0), s.order), s.capacity), s.reserved), k.0), k.1),
-    )
 
 -- nothing is refused of the first k rows
 abbrev pub AllFine : (ℕ → Queue) → (ℕ → ℕ) → ℕ → Type 0
@@ -64,10 +55,6 @@ faults_of row e q w i = record {
 -- 4 of the period and of the rows, then 5
 abbrev pub settled : ℕ → Faults → Refusal
 settled y f = or_else (or_else (out_of_range (ticks 4 y)) (or_else f.rows f.nodes)) f.order
-
-pub settled_is : (c : Chain) (q w : ℕ) → settled c.period (faults_of (row_of c) (work_of c) q w c.n) ≡ first (range_check c q w ∷ order_check c q ∷ [])
-unfolding order_check first
-settled_is c q w = ap₂ or_else (sym (range_parts c q w)) (sym (first_last (tab c.n (λ i. overdrawn (row_of c i) (q + 20 * i)))))
 
 -- at most as many queues as a record has slots
 pub record Few (n : ℕ) : Type 0 where

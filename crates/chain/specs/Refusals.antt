@@ -26,8 +26,6 @@
 --   test_exact, test_silent  a test speaks exactly where it fails, and is silent exactly where it passes
 --   only_test, _fine, _or, _map, _tab
 --                            what keeps to one number
---   exact_once               a list says the number of its check k, which stands once, at L exactly when the checks before it are silent and it says so
---   exact_at                 the same of each check, where no number stands twice
 --   said_earlier             a list says a number that its last checks do not have exactly when the checks before these say it
 use Rattle.std.proofs.Math.Logic.Iff
 use Rattle.std.specs.Prelude.{◌≡◌, Bool, true, false, cond, not, ◌&&◌, ◌↔◌, ◌≢◌, ◌⊎◌, T, eqb, length, get_or, take, drop}
@@ -157,7 +155,7 @@ first_later r rs N L z f = record { at = suc f.at; inside = omega (arith, f.insi
     before (suc j) h = f.before j (omega arith)
 
 module _ (N L : ℕ) (some : N ≢ 0) where
-  says_some : {r : Refusal} → r ≡ refused N L → Silent r → ⊥
+  pub says_some : {r : Refusal} → r ≡ refused N L → Silent r → ⊥
   says_some e z = some (sym (number_of e) ∙ z)
 
   first_found : (rs : List Refusal) → first rs ≡ refused N L → First rs N L
@@ -261,26 +259,23 @@ elsewhere k Ns = take k Ns ++ drop (suc k) Ns
 abbrev pub stands_once : ℕ → List ℕ → Bool
 stands_once k Ns = absent (get_or Ns k 0) (0 ∷ elsewhere k Ns)
 
-pub stands_once_figure : let Ns : List ℕ = 1 ∷ 2 ∷ 1 ∷ 3 ∷ [] in (stands_once 0 Ns ≡ false) × ((stands_once 1 Ns ≡ true) × ((stands_once 2 Ns ≡ false) × (stands_once 3 Ns ≡ true)))
-stands_once_figure = (refl, (refl, (refl, refl)))
-
 -- N is none of the numbers
 abbrev pub Others : ℕ → List ℕ → Type 0
 Others N [] = Unit
 Others N (M ∷ Ms) = (M ≢ N) × Others N Ms
 
-both : (a b : Bool) → T (a && b) → T a × T b
+pub both : (a b : Bool) → T (a && b) → T a × T b
 both true b h = (tt, h)
 both false b h = absurd h
 
-unlike : (M N : ℕ) → T (not (eqb M N)) → M ≢ N
+pub unlike : (M N : ℕ) → T (not (eqb M N)) → M ≢ N
 unlike M N h e = T_not (eqb M N) h (rw (eq-eqb M N e) tt)
 
-others : (N : ℕ) (Ns : List ℕ) → T (absent N Ns) → Others N Ns
+pub others : (N : ℕ) (Ns : List ℕ) → T (absent N Ns) → Others N Ns
 others N [] h = tt
 others N (M ∷ Ms) h = let g = both (not (eqb M N)) (absent N Ms) h in (unlike M N g.0, others N Ms g.1)
 
-others_at : (N : ℕ) (Ns : List ℕ) → Others N Ns → (k : ℕ) → k < length Ns → get_or Ns k 0 ≢ N
+pub others_at : (N : ℕ) (Ns : List ℕ) → Others N Ns → (k : ℕ) → k < length Ns → get_or Ns k 0 ≢ N
 others_at N [] h k l = absurd (not-suc-le-zero l)
 others_at N (M ∷ Ms) h zero l = h.0
 others_at N (M ∷ Ms) h (suc k) l = others_at N Ms h.1 k (omega arith)
@@ -316,43 +311,6 @@ speaks_numbered N some (M ∷ Ms) (r ∷ rs) o a e = speaks? r
 pub said_earlier : (N L : ℕ) → N ≢ 0 → (ps : List Refusal) (Ns : List ℕ) (rs : List Refusal) → Numbered Ns rs → Others N Ns → (first (ps ++ rs) ≡ refused N L) ↔ (first ps ≡ refused N L)
 said_earlier N L some ps Ns rs o a = rw (first_append ps rs)
     (Iff.trans (or_says N L some (first ps) (first rs)) (⊎_elim (λ e. e) (λ s. absurd (speaks_numbered N some Ns rs o a (number_of s.1))), inl))
-
--- a number that no check but check k may have is said exactly when the checks before that one are silent and it says so
-said_alone : (N L : ℕ) → N ≢ 0 → (Ns : List ℕ) (rs : List Refusal) → Numbered Ns rs → (k : ℕ) → Others N (elsewhere k Ns)
-    → (first rs ≡ refused N L) ↔ (Silents (take k rs) × (get_or rs k fine ≡ refused N L))
-unfolding first Silents Numbered
-said_alone N L some Ns [] o zero a = Iff.symm true-and
-said_alone N L some Ns [] o (suc k) a = Iff.symm true-and
-said_alone N L some [] (r ∷ rs) o k a = absurd o
-said_alone N L some (M ∷ Ms) (r ∷ rs) o zero a = Iff.trans (said_earlier N L some (r ∷ []) Ms rs o.1 a) (Iff.trans (says_last N L some r) (Iff.symm true-and))
-said_alone N L some (M ∷ Ms) (r ∷ rs) o (suc k) a =
-    let rest = said_alone N L some Ms rs o.1 k a.1 in
-    Iff.trans (or_says N L some r (first rs)) (
-      ⊎_elim
-          (λ e. absurd (a.0 (sym (o.0 (says_some N L some e)) ∙ number_of e)))
-          (λ s. let q = rest.0 s.1 in ((s.0, q.0), q.1)),
-      λ s. inr (s.0.0, rest.1 (s.0.1, s.1)),
-    )
-
--- a list of checks says the number of its check k, which stands once, at L exactly when the checks before that one are silent and it says so
-pub exact_once : (Ns : List ℕ) (rs : List Refusal) → Numbered Ns rs → (k L : ℕ) → T (stands_once k Ns)
-    → (first rs ≡ refused (get_or Ns k 0) L) ↔ (Silents (take k rs) × (get_or rs k fine ≡ refused (get_or Ns k 0) L))
-exact_once Ns rs o k L h =
-    let a = others (get_or Ns k 0) (0 ∷ elsewhere k Ns) h in
-    said_alone (get_or Ns k 0) L (λ e. a.0 (sym e)) Ns rs o k a.1
-
--- where no number stands twice, the one at each place stands once
-distinct_once : (Ns : List ℕ) → T (distinct Ns) → (k : ℕ) → k < length Ns → T (stands_once k Ns)
-distinct_once [] d k l = absurd (not-suc-le-zero l)
-distinct_once (N ∷ Ns) d zero l = (both (absent N (0 ∷ Ns)) (distinct Ns) d).0
-distinct_once (N ∷ Ns) d (suc k) l =
-    let p = both (absent N (0 ∷ Ns)) (distinct Ns) d in
-    rw (ne_eqb N (get_or Ns k 0) (λ e. others_at N Ns (others N (0 ∷ Ns) p.0).1 k (omega arith) (sym e))) (distinct_once Ns p.1 k (omega arith))
-
--- and so a list in which no number stands twice says the number of each of its checks exactly then
-pub exact_at : (Ns : List ℕ) (rs : List Refusal) → Numbered Ns rs → T (distinct Ns) → (k L : ℕ) → k < length rs
-    → (first rs ≡ refused (get_or Ns k 0) L) ↔ (Silents (take k rs) × (get_or rs k fine ≡ refused (get_or Ns k 0) L))
-exact_at Ns rs o d k L l = exact_once Ns rs o k L (distinct_once Ns d k (omega (arith, numbered_length Ns rs o)))
 
 -- the first of the checks g 0, .. g (n - 1) that speaks says N at L: "lowest", "first such"
 pub record Lowest (g : ℕ → Refusal) (n N L : ℕ) : Type 0 where

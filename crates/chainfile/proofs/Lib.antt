@@ -1,2 +1,5 @@
 mod Reading
 pub mod Writing
+pub mod AcceptedLaws
+pub mod FileLaws
+pub mod RoundTripLaws

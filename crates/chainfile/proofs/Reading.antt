@@ -17,7 +17,8 @@ use Rattle.chain.specs.Tests.{and_true}
 use Rattle.chain.specs.Refusals.{test, first, or_else, Silent, first_append, first_last, or_left, or_right}
 use Rattle.chain.specs.Checks.{count_check}
 use Rattle.chain.specs.Record.{row_of, work_of, empty_chain, answered, refused_alike, same_chain}
-use Rattle.chain.specs.Faults.{fine_row, AllFine, FineRows, TablesAt, no_faults, faults_of, settled, settled_is}
+use Rattle.chain.specs.Faults.{fine_row, AllFine, FineRows, TablesAt, no_faults, faults_of, settled}
+use Rattle.chain.proofs.FaultsLaws.{settled_is}
 use Rattle.chain.specs.declared.Refusal.{Refusal}
 use Rattle.chain.specs.declared.Chain.{Chain}
 use Rattle.chain.specs.declared.ChainAnswer.{ChainAnswer}

@@ -7,7 +7,8 @@ use borrow.Author.Tests.{ne_eqb, lt-ltb, le-ltb}
 use lib.ListN.{length}
 use Rattle.words.specs.Put.{Puts, puts_none, put_front}
 use Rattle.words.specs.Flat.{flat, flat_more}
-use Rattle.words.specs.Words.{bytes_of, then_words}
+use Rattle.words.specs.Words.{bytes_of}
+use Rattle.words.proofs.WordsLaws.{then_words}
 use Rattle.chain.specs.Refusals.{refused, fine, or_else, Silent}
 use Rattle.chain.specs.Checks.{chain_checks, chain_refusal}
 use Rattle.chain.specs.declared.Refusal.{Refusal}

@@ -24,13 +24,16 @@ use Rattle.std.specs.Prelude.{◌≡◌, refl, Bool, true, false, cond, ◌↔�
 use Rattle.std.proofs.Common.{sym, ap, ◌∙◌, arith, length-append}
 use Rattle.std.proofs.Math.Logic.{true-and}
 use Rattle.words.specs.Flat.{flat, flat_length}
-use Rattle.words.specs.Words.{bytes_of, bytes_append, bytes_length}
+use Rattle.words.specs.Words.{bytes_of}
+use Rattle.words.proofs.WordsLaws.{bytes_append, bytes_length}
 use Rattle.words.specs.Rows.{row}
 use Rattle.chain.specs.Tests.{Out, below_true}
-use Rattle.chain.specs.Refusals.{Silents, Numbered, exact_at, refused, fine, test, first, or_else, first_append, test_alone, Only, only_test, test_exact, numbered_append}
+use Rattle.chain.specs.Refusals.{Silents, Numbered, refused, fine, test, first, or_else, first_append, test_alone, Only, only_test, test_exact, numbered_append}
+use Rattle.chain.proofs.RefusalsLaws.{exact_at}
 use Rattle.chain.specs.Record.{row_of, work_of}
 use Rattle.chain.specs.Checks.{count_check, chain_checks, range_check, order_check, record_range, record_order, fields}
-use Rattle.chain.specs.Checks.{FirstOut, FirstOver, count_exact, range_exact, order_exact, chain_numbers, chain_numbered}
+use Rattle.chain.specs.Checks.{FirstOut, FirstOver, chain_numbers}
+use Rattle.chain.proofs.ChecksLaws.{count_exact, range_exact, order_exact, chain_numbered}
 use Rattle.chain.specs.declared.Refusal.{Refusal}
 use Rattle.chain.specs.declared.Chain.{Chain}
 use Rattle.chainfile.specs.declared.LengthAnswer.{LengthAnswer}

@@ -10,7 +10,8 @@ use Prim.Native.Nat.{ℕ, zero, suc, ◌+◌, ◌*◌, ◌<◌}
 use Rattle.words.specs.Flat.{flat}
 use Rattle.words.specs.Table.{tab, slot_used}
 use Rattle.words.specs.Words.{word_at}
-use Rattle.words.specs.Rows.{none, row_from, row_at, row_there}
+use Rattle.words.specs.Rows.{none, row_from, row_at}
+use Rattle.words.proofs.RowsLaws.{row_there}
 use Rattle.words.specs.declared.Queue.{Queue}
 use Rattle.chain.specs.Record.{row_of, work_of}
 use Rattle.chain.specs.Checks.{Field, ticks, row_fields, fields, FirstOver}

@@ -17,8 +17,10 @@ use Rattle.sizing.specs.Plan.{RunPlans}
 use Rattle.state.specs.State.{fresh_run}
 use Rattle.state.specs.Checks.{planned_run}
 use Rattle.flow.specs.Flow.{count_in, Shows}
-use Rattle.deadline.specs.Deadline.{earlier, deadline, index_check, index_only}
-use Rattle.dates.specs.Question.{answered_due, refused_with, answered_refused, answered_fine, never, dated_of, ask_check, deadline_checks, deadline_refusal, deadline_answer, ask_silent, deadline_parts, dated_had, dated_never, dated_exact}
+use Rattle.deadline.specs.Deadline.{earlier, deadline, index_check}
+use Rattle.deadline.proofs.DeadlineLaws.{index_only}
+use Rattle.dates.specs.Question.{answered_due, refused_with, answered_refused, answered_fine, never, dated_of, ask_check, deadline_checks, deadline_refusal, deadline_answer, dated_had, dated_never, dated_exact}
+use Rattle.dates.proofs.QuestionLaws.{ask_silent, deadline_parts}
 use Rattle.dates.specs.Dues.{Dues, DueGives, PassingGives, Dated, DatedGives}
 
 -- 13 as the last check of a list: nothing stands behind it

@@ -12,7 +12,8 @@ use Rattle.sizing.specs.Sizes.{capacity_most}
 use Rattle.sizing.specs.Checks.{limit}
 use Rattle.state.specs.declared.Run.{Run}
 use Rattle.flow.specs.Flow.{produce_in, consume_in}
-use Rattle.deadline.specs.Deadline.{earlier, deadline, index_check, earlier_some}
+use Rattle.deadline.specs.Deadline.{earlier, deadline, index_check}
+use Rattle.deadline.proofs.DeadlineLaws.{earlier_some}
 use Rattle.sizing.specs.Plan.{capacity_in, period_in}
 use Rattle.dates.specs.Question.{never, dated_of}
 use Rattle.dates.specs.Dues.{Step, Shown, Dues, DueGives, PassingGives}

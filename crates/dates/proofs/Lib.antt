@@ -1,2 +1,4 @@
 mod Follow
 mod Answers
+pub mod FiguresLaws
+pub mod QuestionLaws

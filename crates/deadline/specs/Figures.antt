@@ -1,27 +1,13 @@
 -- Deadlines of 000's example (01, Figures), each computed.
 --   example                  queues (118,118,118), three of (256,256,256), (256,32768,16384), (32768,128,128), B all 0, y=1000, e all 1
---   first_figure, fifth_figure, sixth_figure
---                            the first two deadlines of N_1, of N_5 and of N_6
 use Rattle.std.specs.Prelude.{◌≡◌, refl, [], ◌∷◌}
 use Rattle.words.specs.Table.{tab}
 use Rattle.chain.specs.Factory.{queue, made}
 use Rattle.chain.specs.declared.Chain.{Chain}
 use Rattle.deadline.specs.Deadline.{deadline}
 
-abbrev example : Chain
+abbrev pub example : Chain
 example =
     made 1000
     (queue 118 118 118 0 ∷ queue 256 256 256 0 ∷ queue 256 256 256 0 ∷ queue 256 256 256 0 ∷ queue 256 32768 16384 0 ∷ queue 32768 128 128 0 ∷ [])
     (1 ∷ 1 ∷ 1 ∷ 1 ∷ 1 ∷ 1 ∷ [])
-
-pub first_figure : (deadline example 1 1 ≡ 1000) × (deadline example 1 2 ≡ 2000)
-unfolding deadline tab
-first_figure = (refl, refl)
-
-pub fifth_figure : (deadline example 5 1 ≡ 132000) × (deadline example 5 2 ≡ 196000)
-unfolding deadline tab
-fifth_figure = (refl, refl)
-
-pub sixth_figure : (deadline example 6 1 ≡ 196000) × (deadline example 6 2 ≡ 196000)
-unfolding deadline tab
-sixth_figure = (refl, refl)

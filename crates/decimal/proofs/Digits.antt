@@ -5,7 +5,8 @@ use Prim.Native.Nat.{ℕ, ◌+◌, ◌/◌, ◌≤◌, ◌<◌}
 use lib.ListN.{length, set}
 use lib.Seq.{sets}
 use Rattle.words.specs.Put.{put_last}
-use Rattle.decimal.specs.Digits.{last_digit, decimal, decimal_one, decimal_more}
+use Rattle.decimal.specs.Digits.{last_digit, decimal}
+use Rattle.decimal.proofs.DigitsLaws.{decimal_one, decimal_more}
 
 -- the last of several digits, then the digits before it
 pub put_digit : (l : List ℕ) (at j n d : ℕ) → 10 ≤ n → j ≡ at + length (decimal (n / 10)) → d ≡ last_digit n → sets (set l j d) at (decimal (n / 10)) ≡ sets l at (decimal n)

@@ -1,2 +1,5 @@
 mod Digits
 mod Signs
+pub mod DigitsLaws
+pub mod FiguresLaws
+pub mod SignedLaws

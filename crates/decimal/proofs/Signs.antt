@@ -13,7 +13,8 @@ use mir.Syntax.{w32, w64}
 use mir.Val.{Fits, SFits, to_z, of_z}
 use mir.Facts.{to_z-of_z, sfits_widen}
 use Rattle.decimal.specs.Digits.{decimal}
-use Rattle.decimal.specs.Signed.{integer, integer_minus, integer_plain}
+use Rattle.decimal.specs.Signed.{integer}
+use Rattle.decimal.proofs.SignedLaws.{integer_minus, integer_plain}
 
 -- z as the code reads it, and cast to 64 bits
 abbrev read : ℤ → ℤ

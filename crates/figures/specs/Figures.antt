@@ -6,7 +6,6 @@
 --   scope_figures            P1 to P10, that example, and a run of each kind
 --   table                    the questions with their answers: these, and those of Files, ChainRefusals and RunRefusals
 --   same, all_right          the computed test
---   figures                  the statement: what the test decides of the table
 use Rattle.std.specs.Prelude.{◌≡◌, refl, Bool, true, false, ◌&&◌, ℕ, zero, suc, ◌<◌, T, eqb, length, get_or, replicate}
 use Rattle.std.proofs.Common.{ap₂, arith, eqb→eq}
 use mathlib.Core.List.{List, [], ◌∷◌, ◌++◌, flat_map}
@@ -123,11 +122,11 @@ unfolding same answer_to
 all_right [] = true
 all_right (r ∷ rs) = same r.1 (answer_to r.0) && all_right rs
 
-both : (a b : Bool) → T (a && b) → T a × T b
+pub both : (a b : Bool) → T (a && b) → T a × T b
 both true b h = (tt, h)
 both false b h = absurd h
 
-same_is : (ms ns : List ℕ) → T (same ms ns) → ms ≡ ns
+pub same_is : (ms ns : List ℕ) → T (same ms ns) → ms ≡ ns
 unfolding same
 same_is [] [] h = refl
 same_is [] (n ∷ ns) h = absurd h
@@ -135,13 +134,8 @@ same_is (m ∷ ms) [] h = absurd h
 same_is (m ∷ ms) (n ∷ ns) h = let p = both (eqb m n) (same ms ns) h in ap₂ ◌∷◌ (eqb→eq m n p.0) (same_is ms ns p.1)
 
 -- what the test decides: row i's answer is what the call answers
-right_rows : (rs : List Row) (d : Row) → T (all_right rs) → (i : ℕ) → i < length rs → (get_or rs i d).1 ≡ answer_to (get_or rs i d).0
+pub right_rows : (rs : List Row) (d : Row) → T (all_right rs) → (i : ℕ) → i < length rs → (get_or rs i d).1 ≡ answer_to (get_or rs i d).0
 unfolding all_right
 right_rows [] d h i l = absurd (omega arith)
 right_rows (r ∷ rs) d h zero l = same_is r.1 (answer_to r.0) (both (same r.1 (answer_to r.0)) (all_right rs) h).0
 right_rows (r ∷ rs) d h (suc i) l = right_rows rs d (both (same r.1 (answer_to r.0)) (all_right rs) h).1 i (omega arith)
-
--- every figure of the table is right
-pub figures : (i : ℕ) → i < length table → (get_or table i (analyse feed, [])).1 ≡ answer_to (get_or table i (analyse feed, [])).0
-unfolding all_right chain_numbers state_numbers repeated flat_map by_file by_record accepted by_state
-figures = right_rows table (analyse feed, []) tt

@@ -28,7 +28,8 @@ use Rattle.chain.specs.declared.Chain.{Chain}
 use Rattle.sizing.specs.Sizes.{capacity_most}
 use Rattle.sizing.specs.Checks.{limit}
 use Rattle.state.specs.State.{count_at, held_at}
-use Rattle.state.specs.Fired.{fired, Over, May, over_enough, count_fired, count_other, held_output, held_input, held_other, held_sink, counts_length, holds_length}
+use Rattle.state.specs.Fired.{fired, Over, May, over_enough}
+use Rattle.state.proofs.FiredLaws.{count_fired, count_other, held_output, held_input, held_other, held_sink, counts_length, holds_length}
 use Rattle.state.specs.declared.Run.{Run}
 
 -- where each number stands: p, τ and c of queue j, N_j's count, what queue j holds, and n; word 81 is not used, so that 65 + i is n's place for no node i

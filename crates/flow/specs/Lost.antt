@@ -16,7 +16,8 @@ use Rattle.chain.specs.Sound.{Sound}
 use Rattle.chain.specs.declared.Chain.{Chain}
 use Rattle.sizing.specs.Checks.{limit}
 use Rattle.state.specs.State.{count_at, held_at}
-use Rattle.state.specs.Fired.{fired, consumed, Over, over_enough, count_fired, count_other, counts_length}
+use Rattle.state.specs.Fired.{fired, consumed, Over, over_enough}
+use Rattle.state.proofs.FiredLaws.{count_fired, count_other, counts_length}
 use Rattle.state.specs.declared.Run.{Run}
 use Rattle.flow.specs.Flow.{count_in, held_in, consume_in, counted, taken_out, counted_other, take_length, take_other, Shows, Takes}
 

@@ -37,9 +37,3 @@ feed_top = (refl, refl)
 pub feed_permitted : Permitted feed (fresh_run feed) feed_history
 unfolding factory_answer fresh_run fired fire_refusal EachFiring
 feed_permitted = (refl, (refl, (refl, (refl, (refl, (refl, (refl, (refl, tt))))))))
-
--- and each node of it fires only when the node that it feeds is below threshold
-pub feed_prompt : Prompt feed (fresh_run feed) feed_history
-unfolding factory_answer fresh_run fired EachFiring
-feed_prompt =
-    (λ l. omega arith, (λ l. omega arith, (λ l. omega arith, (λ l. omega arith, (λ l. omega arith, (λ l. omega arith, (λ l. omega arith, (λ l. omega arith, tt))))))))

@@ -6,13 +6,14 @@ use Rattle.chain.specs.Sound.{Sound}
 use Rattle.chain.specs.declared.Refusal.{Refusal}
 use Rattle.chain.specs.declared.Chain.{Chain}
 use Rattle.sizing.specs.Checks.{run_answer}
-use Rattle.sizing.specs.Accepted.{run_accepts, run_said, run_quiet}
+use Rattle.sizing.proofs.AcceptedLaws.{run_accepts, run_said, run_quiet}
 use Rattle.sizing.specs.declared.AnalysisAnswer.{AnalysisAnswer}
 use Rattle.state.specs.State.{empty_run, fresh_run, answered, answered_refused, answered_fine, refused_with}
 use Rattle.state.specs.declared.Run.{Run}
 use Rattle.history.specs.History.{after}
 use Rattle.schedule.specs.Schedule.{schedule}
-use Rattle.immediate.specs.Checks.{length_check, immediate_checks, immediate_refusal, immediate_answer, immediate_parts, immediate_accepts}
+use Rattle.immediate.specs.Checks.{length_check, immediate_checks, immediate_refusal, immediate_answer}
+use Rattle.immediate.proofs.ChecksLaws.{immediate_parts, immediate_accepts}
 use Rattle.immediate.specs.Steps.{Bounds}
 
 module _ (c : Chain) (k : ℕ) {a : AnalysisAnswer} (e : a ≡ run_answer c) where

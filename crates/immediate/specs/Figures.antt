@@ -1,7 +1,5 @@
 -- The limit of an immediate run, computed.
 --   relay                    one queue that hands on each token at once, (1,1,1)
---   limit_figure             a million firings of each node are not refused
---   past_figure              one more is refused 9, at the source
 use Rattle.std.specs.Prelude.{◌≡◌, refl, [], ◌∷◌}
 use Rattle.words.specs.Table.{tab}
 use Rattle.chain.specs.Refusals.{refused, fine}
@@ -9,13 +7,5 @@ use Rattle.chain.specs.Factory.{queue, made}
 use Rattle.chain.specs.declared.Chain.{Chain}
 use Rattle.immediate.specs.Checks.{length_check}
 
-abbrev relay : Chain
+abbrev pub relay : Chain
 relay = made 1 (queue 1 1 1 0 ∷ []) (1 ∷ [])
-
-pub limit_figure : length_check relay 1000000 ≡ fine
-unfolding length_check tab
-limit_figure = refl
-
-pub past_figure : length_check relay 1000001 ≡ refused 9 0
-unfolding length_check tab
-past_figure = refl

@@ -3,4 +3,3 @@ pub mod Figures
 pub mod Long
 pub mod Steps
 pub mod Lent
-pub mod Slots

@@ -1,12 +1,7 @@
 -- Figures of ticks and deadline runs, each computed (01, P7 and P8).
 --   feed, feed_working e B     the factory chain 0, and with execution time e and capacity B
 --   row r                      what is left: the outcome's number, the counts of source and sink, what is held, and the outcome's values
---   feed_34                    P7
---   seven_41, seven_40         P8: the overflow at tick 40, to which a run of 40 ticks does not come
---   twelve_90                  and with B = 12 none to tick 90
---   feed_ticks                 P7 by ticks
 --   late, late_run, late_tick  a node that the source's step brings over threshold, and whose deadline can't be had
---   late_rests                 where the source does not step it is below threshold, and the tick is clean
 use Rattle.std.specs.Prelude.{◌≡◌, refl, List, [], ◌∷◌, ℕ}
 use Rattle.chain.specs.Factory.{queue, made, factory_answer}
 use Rattle.chain.specs.declared.Chain.{Chain}
@@ -27,44 +22,9 @@ feed_working e B = made 10 (queue 4 7 3 B ∷ []) (e ∷ [])
 abbrev pub row : Ticked → List ℕ
 row r = number_of r.outcome ∷ count_at r.run 0 ∷ count_at r.run 1 ∷ held_at r.run 0 ∷ values_of r.outcome
 
--- P7: "T=34: source 4, sink 4, held 4"
-pub feed_34 : row (instants feed 34 (fresh_run feed)) ≡ 0 ∷ 4 ∷ 4 ∷ 4 ∷ []
-unfolding instants factory_answer fresh_run
-feed_34 = refl
-
--- P8: "overflow at tick 40, queue 0, with source 4, sink 3, held 7"
-pub seven_41 : row (instants (feed_working 7 0) 41 (fresh_run (feed_working 7 0))) ≡ 0 ∷ 4 ∷ 3 ∷ 7 ∷ 40 ∷ 0 ∷ []
-unfolding instants fresh_run
-seven_41 = refl
-
--- at instant T the source does not step
-pub seven_40 : row (instants (feed_working 7 0) 40 (fresh_run (feed_working 7 0))) ≡ 0 ∷ 4 ∷ 3 ∷ 7 ∷ []
-unfolding instants fresh_run
-seven_40 = refl
-
--- P8: "with B=12 it is clean to tick 90"
-pub twelve_90 : row (instants (feed_working 7 12) 90 (fresh_run (feed_working 7 12))) ≡ 0 ∷ 9 ∷ 10 ∷ 6 ∷ []
-unfolding instants fresh_run
-twelve_90 = refl
-
--- P7 by ticks
-pub feed_ticks : row (ticks feed 34 (fresh_run feed)) ≡ 0 ∷ 4 ∷ 4 ∷ 4 ∷ []
-unfolding ticks factory_answer fresh_run
-feed_ticks = refl
-
 -- a node whose next index passes the limit at the source once the source's step has brought it over threshold
 abbrev pub late : Chain
 late = made 10 (queue 1 1 1 10 ∷ []) (1 ∷ [])
 
 abbrev pub late_run : Run
 late_run = record { clock = 0; counts = 4294967290 ∷ 4294967290 ∷ []; held = 0 ∷ []; done = 0 ∷ [] }
-
--- "13 at the first instant when, after the source's step, an over-threshold node's deadline can't be had, .. the state being that before the source's step"
-pub late_tick : row (tick late late_run) ≡ 13 ∷ 4294967290 ∷ 4294967290 ∷ 0 ∷ 0 ∷ 1 ∷ []
-unfolding tick
-late_tick = refl
-
--- while it is below threshold nothing is asked of it
-pub late_rests : row (tick late (with_clock late_run 1)) ≡ 0 ∷ 4294967290 ∷ 4294967290 ∷ 0 ∷ []
-unfolding tick
-late_rests = refl

@@ -4,9 +4,6 @@
 --                              no outcome that ends a run is clean, and an overflow is not 13
 --   clean_or, onward_goes, onward_stops, onward_cases
 --                              an outcome is clean or not; what follows one that is, nothing follows one that is not, and what goes on was clean
---   ticks_none, ticks_suc      no tick, and one more
---   instants_ticks             instants are the effect of a firing that is finished, and then ticks
---   ticks_more, ticks_last     a+b ticks are a ticks, carried on for b, and so for one
 use Rattle.std.specs.Prelude.{◌≡◌, ◌⊎◌, ℕ, suc, ◌+◌}
 use Rattle.std.proofs.Math.Path.{refl}
 use Rattle.std.proofs.Common.{ap, ◌∙◌, inl, inr, arith}
@@ -85,44 +82,5 @@ onward_cases r f = by r.outcome
     by (NoDeadline t i) h = absurd (unclean_undated h)
 
 -- what follows one thing after the other
-follows : Follows clean onward
+pub follows : Follows clean onward
 follows = record { goes = onward_clean; none = onward_none; then = onward_then }
-
-module _ (c : Chain) where
-  pub ticks_none : (s : Run) → ticks c 0 s ≡ clean s
-  unfolding ticks
-  ticks_none s = refl
-
-  pub ticks_suc : (T : ℕ) (s : Run) → ticks c (suc T) s ≡ onward (tick c s) (ticks c T)
-  unfolding ticks
-  ticks_suc T s = refl
-
-  many : Many clean onward (tick c) (ticks c)
-  many = record { none = ticks_none; more = ticks_suc }
-
-  -- 01's instants are the effect of what is finished, and then tick after tick
-  instant_last : (s : Run) → instants c 0 s ≡ finished c s
-  unfolding instants
-  instant_last s = refl
-
-  instant_more : (T : ℕ) (s : Run) → instants c (suc T) s ≡ onward (onward (finished c s) (advanced c)) (instants c T)
-  unfolding instants
-  instant_more T s = refl
-
-  each_instant : Instants clean onward (advanced c) (finished c) (instants c)
-  each_instant = record { last = instant_last; more = instant_more }
-
-  tick_advances : (s : Run) → tick c s ≡ onward (advanced c s) (finished c)
-  unfolding tick
-  tick_advances s = refl
-
-  pub instants_ticks : (T : ℕ) (s : Run) → instants c T s ≡ onward (finished c s) (ticks c T)
-  instants_ticks = instants_many follows many each_instant tick_advances
-
-  -- a+b ticks are a ticks, carried on for b
-  pub ticks_more : (a b : ℕ) (s : Run) → ticks c (a + b) s ≡ onward (ticks c a s) (ticks c b)
-  ticks_more = many_more follows many
-
-  -- so T+1 ticks are T ticks, carried on for one
-  pub ticks_last : (T : ℕ) (s : Run) → ticks c (suc T) s ≡ onward (ticks c T s) (tick c)
-  ticks_last = many_last follows many

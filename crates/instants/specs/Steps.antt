@@ -66,12 +66,6 @@ at_of Clean = 0
 at_of (Overflowed t q) = q
 at_of (NoDeadline t i) = i
 
--- which are 01's number and values
-pub kind_number : (o : Outcome) → number_of o ≡ cond (eqb (kind_of o) 2) 13 0
-kind_number Clean = refl
-kind_number (Overflowed t q) = refl
-kind_number (NoDeadline t i) = refl
-
 pub kind_values : (o : Outcome) → values_of o ≡ cond (eqb (kind_of o) 0) [] (tick_of o ∷ at_of o ∷ [])
 kind_values Clean = refl
 kind_values (Overflowed t q) = refl

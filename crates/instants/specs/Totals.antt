@@ -1,7 +1,5 @@
 -- What is counted over a deadline run that is clean (01, Firing).
---   run_clock                  the clock is T
 --   due_more                   a count that is t/y, rounded up, is that of t+1 where it is one more exactly if y divides t
---   tick_source, run_source    the source has fired T/y times, rounded up: once at each multiple of y below T; and so after each clean tick
 --   worked_by c s j, spent_on c s m, total c s
 --                              the ticks that N_(j+1), N_1 to N_m, and all nodes have worked: e for each firing, and the work done of the next
 --   spent_alike                the same work of each node is the same of all
@@ -16,23 +14,23 @@
 --   HowMany P T m              exactly m of the numbers below T have P
 --   how_many_one, many_next    there is one such m only, and one more exactly where one more number has P
 --   fresh_work, fresh_total    no node has worked before a run
---   run_work                   so all work done in a run is one tick for each instant at which a node waited for it
 use Rattle.std.specs.Prelude.{◌≡◌, refl, ◌≢◌, ◌⊎◌, List, get_or}
 use Rattle.std.proofs.Common.{sym, ap, subst, ◌∙◌, inl, inr, ⊎_elim, le_refl, zero-lt-suc, add-one, arith}
 use Rattle.std.proofs.Math.Logic.{by_cases}
 use Prim.Native.Nat.{ℕ, zero, suc, ◌+◌, ◌*◌, ◌≤◌, ◌<◌, ◌∣◌}
 use Rattle.std.proofs.Math.Nat.{le_step}
 use Rattle.std.proofs.Math.Decide.{ℕ_discrete, dec_le, dec_dvd}
-use Rattle.arith.specs.Division.{ceil, ceil_zero, ceil_multiple, ceil_between}
+use Rattle.arith.specs.Division.{ceil}
+use Rattle.arith.proofs.DivisionLaws.{ceil_zero, ceil_multiple, ceil_between}
 use Rattle.chain.specs.Record.{row_of, work_of}
 use Rattle.chain.specs.declared.Chain.{Chain}
 use Rattle.state.specs.State.{count_at, held_at, done_at, fresh_run, fresh_count}
 use Rattle.state.specs.Fired.{Over}
 use Rattle.state.specs.declared.Run.{Run}
 use Rattle.instants.specs.Checks.{deadline_run_answer}
-use Rattle.instants.specs.Source.{SourceOnce, source_only}
-use Rattle.instants.specs.Once.{Works, WorkOnce, TickOnce, once_counts, once_keeps}
-use Rattle.instants.specs.Answers.{run_may, CleanStep, at_clock, run_start, along}
+use Rattle.instants.specs.Source.{SourceOnce}
+use Rattle.instants.specs.Once.{Works, WorkOnce, TickOnce}
+use Rattle.instants.specs.Answers.{CleanStep}
 use Rattle.instants.specs.declared.Outcome.TheVariants.{Clean}
 use Rattle.instants.specs.declared.TickAnswer.{TickAnswer}
 
@@ -41,12 +39,6 @@ pub due_more : (y t a b : ℕ) → 0 < y → (y ∣ t → b ≡ a + 1) → ((y �
 due_more y t a b some fires rests p = by_cases (dec_dvd y t)
     (λ d. fires d ∙ add-one a ∙ ap suc p ∙ sym (ceil_multiple t y some d))
     (λ n. rests n ∙ p ∙ sym (ceil_between t y some n))
-
--- its count after one clean tick
-pub tick_source : {c : Chain} {t : ℕ} {s u : Run} → CleanStep c t s u → count_at s 0 ≡ ceil t c.period → count_at u 0 ≡ ceil (suc t) c.period
-tick_source {c} {t} {s} {u} k = due_more c.period t (count_at s 0) (count_at u 0) k.running.chain.chain.period.0
-    (λ d. (once_counts k.tick).1 (subst (λ (m : ℕ). c.period ∣ m) (sym k.clock) d))
-    (λ n. (once_keeps k.tick).1 (λ d. n (subst (λ (m : ℕ). c.period ∣ m) k.clock d)))
 
 -- the ticks that N_(j+1) has worked: e for each of its firings, and those on the firing that it has begun
 abbrev pub worked_by : Chain → Run → ℕ → ℕ
@@ -85,7 +77,7 @@ worked_out c u t j = ends (work_of c j) (count_at u (suc j)) (count_at t (suc j)
 pub source_work : {c : Chain} {s u : Run} → SourceOnce c s u → (j : ℕ) → worked_by c u j ≡ worked_by c s j
 source_work {c} o j = λ k. work_of c j * o.counts (suc j) (λ z. omega arith) k + get_or (o.done k) j 0
 
-source_total : {c : Chain} {s u : Run} → SourceOnce c s u → total c u ≡ total c s
+pub source_total : {c : Chain} {s u : Run} → SourceOnce c s u → total c u ≡ total c s
 source_total {c} {s} {u} o = spent_alike c s u c.n (λ j l. source_work o j)
 
 module _ {c : Chain} {u t : Run} {w : ℕ} (k : WorkOnce c u w t) where
@@ -162,16 +154,6 @@ work_total {c} {u} {w} t k own others = at w refl
       spent_more c u t j c.n (omega (arith, k.node, e)) (own j e) (λ i n. others i (λ z. n (omega arith))),
     )
 
--- a clean tick does one tick of work where a node waits for it, and none elsewhere
-pub tick_total : {c : Chain} {s t : Run} → TickOnce c s t → (Waits c s × (total c t ≡ total c s + 1)) ⊎ ((Waits c s → ⊥) × (total c t ≡ total c s))
-tick_total {c} {s} {t} k = ⊎_elim
-    (λ h. inl (record { after = k.after; source = k.source; some = h.0 }, omega (arith, h.1, before)))
-    (λ h. inr (λ w. h.0 (subst (SomeOver c) (source_only w.after k.after w.source k.source) w.some), omega (arith, h.1, before)))
-    (work_total t k.works (own_work k.work) (other_work k.work))
-  where
-    before : total c k.after ≡ total c s
-    before = source_total k.source
-
 -- exactly m of the numbers below T have P
 unfoldable pub HowMany : (ℕ → Type 0) → ℕ → ℕ → Type 0
 HowMany P zero m = m ≡ 0
@@ -213,33 +195,3 @@ pub fresh_total : (c : Chain) (m : ℕ) → spent_on c (fresh_run c) m ≡ 0
 unfolding spent_on
 fresh_total c zero = refl
 fresh_total c (suc j) = omega (arith, fresh_total c j, fresh_work c j)
-
--- a deadline run that is not refused, and is clean
-module _ (c : Chain) (T : ℕ) (ok : (deadline_run_answer c T).number ≡ 0) (z : (deadline_run_answer c T).outcome ≡ Clean) where
-  -- "a run of T ticks"
-  pub run_clock : (deadline_run_answer c T).run.clock ≡ T
-  run_clock = (at_clock c T ok T (le_refl T) z).1
-
-  -- "the source fires if y divides t"
-  pub run_source : count_at (deadline_run_answer c T).run 0 ≡ ceil T c.period
-  run_source = along c T ok (λ t. count_at (deadline_run_answer c t).run 0 ≡ ceil t c.period) first (λ t l. tick_source) z
-    where
-      first : count_at (deadline_run_answer c 0).run 0 ≡ ceil 0 c.period
-      first = ap (λ (a : TickAnswer). count_at a.run 0) (run_start c T ok) ∙ fresh_count c 0 ∙ sym (ceil_zero c.period (run_may c T ok).0.0.chain.period.0)
-
-  -- all work that was done, as firings or as work on the next, is one tick for each instant at which a node waited for it
-  pub run_work : HowMany (λ t. Waits c (deadline_run_answer c t).run) T (total c (deadline_run_answer c T).run)
-  unfolding HowMany
-  run_work = along c T ok Worked first more z
-    where
-      Waited : ℕ → Type 0
-      Waited t = Waits c (deadline_run_answer c t).run
-
-      Worked : ℕ → Type 0
-      Worked t = HowMany Waited t (total c (deadline_run_answer c t).run)
-
-      first : Worked 0
-      first = ap (λ (a : TickAnswer). total c a.run) (run_start c T ok) ∙ fresh_total c c.n
-
-      more : (t : ℕ) → t < T → CleanStep c t (deadline_run_answer c t).run (deadline_run_answer c (suc t)).run → Worked t → Worked (suc t)
-      more t l k = many_next Waited (λ m. total c (deadline_run_answer c m).run) t (tick_total k.tick)

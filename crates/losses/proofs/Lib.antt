@@ -1,2 +1,4 @@
 mod Pass
 pub mod Slots
+pub mod ChecksLaws
+pub mod LossesLaws

@@ -13,8 +13,10 @@ use lib.Seq.{get_or-set_same, get_or-set_other}
 use borrow.Author.Tests.{eq-eqb, ne_eqb}
 use Rattle.words.specs.Table.{tab, tab_more, below_next}
 use Rattle.chain.specs.Refusals.{fine, or_right, first_fine}
-use Rattle.losses.specs.Losses.{entry_at, lost_in, lost_append}
-use Rattle.losses.specs.Checks.{LongOrStray, Named, long_check, stray_test, stray_check, list_check, long_silent, stray_silent, list_exact}
+use Rattle.losses.specs.Losses.{entry_at, lost_in}
+use Rattle.losses.proofs.LossesLaws.{lost_append}
+use Rattle.losses.specs.Checks.{LongOrStray, Named, long_check, stray_test, stray_check, list_check}
+use Rattle.losses.proofs.ChecksLaws.{long_silent, stray_silent, list_exact}
 use Rattle.losses.specs.Tally.{TallyGives}
 use Rattle.losses.specs.declared.Losses.{Losses}
 

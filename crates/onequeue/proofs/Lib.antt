@@ -1,1 +1,5 @@
 pub mod Signed
+pub mod CapacityLaws
+pub mod FiguresLaws
+pub mod LeastLaws
+pub mod ResidueLaws

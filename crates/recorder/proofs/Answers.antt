@@ -10,26 +10,29 @@ use Rattle.chain.specs.Faults.{Few}
 use Rattle.chain.specs.Refusals.{refused, or_else, Silent, silent_as, or_left, or_right}
 use Rattle.chain.specs.declared.Refusal.{Refusal}
 use Rattle.chain.specs.declared.Chain.{Chain}
-use Rattle.sizing.specs.Accepted.{Accepted, analyse_accepts}
+use Rattle.sizing.specs.Accepted.{Accepted}
+use Rattle.sizing.proofs.AcceptedLaws.{analyse_accepts}
 use Rattle.sizing.specs.Plan.{SizedPlans}
 use Rattle.state.specs.State.{empty_run, fresh_run}
 use Rattle.state.specs.Fired.{accounted}
-use Rattle.state.specs.Checks.{state_check_with, state_lent_with, state_sums, lent_run, Planned, Accountable, planned_sized}
+use Rattle.state.specs.Checks.{state_check_with, lent_run, Planned, Accountable, planned_sized}
+use Rattle.state.proofs.ChecksLaws.{state_lent_with, state_sums}
 use Rattle.state.specs.declared.Run.{Run}
 use Rattle.flow.specs.Flow.{Shows}
 use Rattle.flow.specs.Poured.{Showing}
 use Rattle.instants.specs.Checks.{longest, clock_check, spent_check}
-use Rattle.instants.specs.Refusals.{length_exact}
+use Rattle.instants.proofs.RefusalsLaws.{length_exact}
 use Rattle.instants.specs.Filled.{Filled}
 use Rattle.losses.specs.Losses.{empty_losses, Listed, listed_empty}
 use Rattle.losses.specs.Tally.{TallyGives}
 use Rattle.losses.specs.declared.Losses.{Losses}
 use Rattle.losses.specs.declared.Tally.{Tally}
 use Rattle.recordings.specs.Steps.{rec_clean, rec_onward, rec_tick, rec_ticks}
-use Rattle.recordings.specs.Runs.{rec_onward_goes, rec_ticks_none, rec_ticks_last, rec_run_is_ticks}
+use Rattle.recordings.proofs.RunsLaws.{rec_onward_goes, rec_ticks_none, rec_ticks_last, rec_run_is_ticks}
 use Rattle.recordings.specs.Checks.{rec_accounted, rec_state_check, rec_queues_check, recording_filled}
 use Rattle.recordings.specs.Answers.{rec_tick_refusal, rec_tick_answer, rec_run_refusal, rec_run_answer}
-use Rattle.recordings.specs.RecRefusals.{RecTicking, rec_ticking_is, rec_ran_as, rec_refused_as, rec_tick_parts, rec_tick_ran, rec_tick_refused, rec_run_parts, rec_run_accepts, rec_run_ran, rec_run_refused}
+use Rattle.recordings.specs.RecRefusals.{RecTicking, rec_ran_as, rec_refused_as}
+use Rattle.recordings.proofs.RecRefusalsLaws.{rec_ticking_is, rec_tick_parts, rec_tick_ran, rec_tick_refused, rec_run_parts, rec_run_accepts, rec_run_ran, rec_run_refused}
 use Rattle.ticks.specs.Runs.{LendsIn, RanGives, lent_once, lends_once, lent_fresh, lends_fresh}
 use Rattle.recordings.specs.declared.Recorded.{Recorded}
 use Rattle.recordings.specs.declared.RecordAnswer.{RecordAnswer}

@@ -22,12 +22,15 @@ use Rattle.instants.specs.Steps.{ticks}
 use Rattle.instants.specs.Runs.{unclean_undated}
 use Rattle.instants.specs.declared.Ticked.{Ticked}
 use Rattle.instants.specs.declared.Outcome.TheVariants as plain
-use Rattle.losses.specs.Losses.{noted, Listed, listed_noted}
+use Rattle.losses.specs.Losses.{noted, Listed}
+use Rattle.losses.proofs.LossesLaws.{listed_noted}
 use Rattle.losses.specs.declared.Losses.{Losses}
 use Rattle.recordings.specs.Steps.{rec_ticks}
-use Rattle.recordings.specs.Beside.{beside_clean, beside_undated}
-use Rattle.recordings.specs.Left.{Able, left_queue}
-use Rattle.recordings.specs.Resumed.{rec_from, ticks_left, ticks_reach, ticks_from_law, from_clean, from_undated, from_full}
+use Rattle.recordings.proofs.BesideLaws.{beside_clean, beside_undated}
+use Rattle.recordings.specs.Left.{Able}
+use Rattle.recordings.proofs.LeftLaws.{left_queue}
+use Rattle.recordings.specs.Resumed.{rec_from}
+use Rattle.recordings.proofs.ResumedLaws.{ticks_left, ticks_reach, ticks_from_law, from_clean, from_undated, from_full}
 use Rattle.recordings.specs.RecRefusals.{rec_ran_as}
 use Rattle.recordings.specs.declared.RecordOutcome.TheVariants.{ListFull}
 use Rattle.recordings.specs.declared.Recorded.{Recorded}

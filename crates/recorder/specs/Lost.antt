@@ -22,14 +22,16 @@ use Rattle.flow.specs.Flow.{Shows}
 use Rattle.flow.specs.Lost.{losing, Loses, shows_lost}
 use Rattle.instants.specs.Checks.{longest}
 use Rattle.instants.specs.Steps.{clean, overflowed, undated, lacking, chosen, worked, finished, ticks}
-use Rattle.instants.specs.Lacking.{lacking_exact}
-use Rattle.instants.specs.Kept.{chosen_low, chosen_over, finished_clock, worked_clock}
+use Rattle.instants.proofs.LackingLaws.{lacking_exact}
+use Rattle.instants.proofs.KeptLaws.{chosen_low, chosen_over, finished_clock, worked_clock}
 use Rattle.instants.specs.declared.Outcome.TheVariants.{Clean, Overflowed}
 use Rattle.instants.specs.declared.Ticked.{Ticked}
 use Rattle.losses.specs.Losses.{noted}
 use Rattle.recordings.specs.Steps.{dropped, lost_firing, rec_ticks}
-use Rattle.recordings.specs.Left.{SourceLost, FinishLost, left_with, left_clean, left_undated, finished_dated, drop_midway, finish_left}
-use Rattle.recordings.specs.Resumed.{rec_from, ticks_left, ticks_reach, ticks_from_law, from_more, from_undated, from_finish, from_lacks, from_source}
+use Rattle.recordings.specs.Left.{SourceLost, FinishLost, left_with, finished_dated}
+use Rattle.recordings.proofs.LeftLaws.{left_clean, left_undated, drop_midway, finish_left}
+use Rattle.recordings.specs.Resumed.{rec_from}
+use Rattle.recordings.proofs.ResumedLaws.{ticks_left, ticks_reach, ticks_from_law, from_more, from_undated, from_finish, from_lacks, from_source}
 use Rattle.steps.specs.Lent.{outcome_as, Stands, Keeps, Looks, lack_of, LackingGives, ChosenGives}
 use Rattle.steps.specs.Laws.{shows_as, as_clean}
 use Rattle.steps.specs.Passed.{Stand, DuesGive, CompletesIn, Completes, CompletedTo, CompletedGives}

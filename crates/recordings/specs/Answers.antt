@@ -6,11 +6,7 @@
 --   rec_answer_of r s l x      the answer of a call: the refusal r with the state s and the list l, or what x leaves where r is silent
 --   rec_tick_answer c s l      the whole answer of a recording tick: the state and the list as they were, or what the tick leaves
 --   rec_run_answer c T         the whole answer of a recording run: an empty state and an empty list, or what the run leaves
---   shallow_run, shallow_tick  of a queue in which nothing fits, its capacity being below the minimum (Figures), neither call refuses anything
 --   late_run t, long_list      a state of clock t in which nothing has happened, and a list of 257 entries
---   late_long                  17 of the list is said before 9 of the clock
---   late_short, late_list      with a list that passes it is 9, and the list is given back as it was, with no loss of that tick
---   due_list                   two ticks earlier it is not refused, and the loss is noted
 use Rattle.std.specs.Prelude.{◌≡◌, refl, cond, List, [], ◌∷◌, ◌++◌, ℕ, eqb, replicate}
 use Rattle.chain.specs.Refusals.{refused, fine, first}
 use Rattle.chain.specs.declared.Refusal.{Refusal}
@@ -66,37 +62,9 @@ unfoldable pub rec_run_answer : Chain → ℕ → RecordAnswer
 unfolding rec_run_refusal rec_answer_of rec_instants fresh_run
 rec_run_answer c T = rec_answer_of (rec_run_refusal c T) empty_run empty_losses (rec_run c T)
 
--- "old skids' capacities below the minimum are allowed"
-pub shallow_run : (rec_run_answer shallow 3).number ≡ 0
-unfolding rec_run_answer
-shallow_run = refl
-
-pub shallow_tick : rec_tick_refusal shallow (fresh_run shallow) empty_losses ≡ fine
-unfolding rec_tick_refusal fresh_run
-shallow_tick = refl
-
 -- a state of clock t in which nothing has happened
 abbrev pub late_run : ℕ → Run
 late_run t = record { clock = t; counts = replicate 17 0; held = replicate 16 0; done = replicate 16 0 }
 
 abbrev pub long_list : Losses
 long_list = record { count = 257; entries = replicate 256 (loss 0 0 0) }
-
--- 17 of the list comes before 9 of the clock
-pub late_long : rec_tick_refusal shallow (late_run 1000000) long_list ≡ refused 17 0
-unfolding rec_tick_refusal
-late_long = refl
-
-pub late_short : rec_tick_refusal shallow (late_run 1000000) empty_losses ≡ refused 9 0
-unfolding rec_tick_refusal
-late_short = refl
-
--- "a refused tick" gives the list as it was, though the source's production would be lost then
-pub late_list : (rec_tick_answer shallow (late_run 1000000) empty_losses).losses.count ≡ 0
-unfolding rec_tick_answer
-late_list = refl
-
--- two ticks earlier it is taken, and lost
-pub due_list : entry_at (rec_tick_answer shallow (late_run 999998) empty_losses).losses 0 ≡ loss 999998 0 4
-unfolding rec_tick_answer
-due_list = refl

@@ -17,7 +17,8 @@ use Rattle.chain.specs.Record.{row_of, work_of}
 use Rattle.chain.specs.declared.Chain.{Chain}
 use Rattle.state.specs.State.{count_at, held_at, done_at}
 use Rattle.state.specs.Fired.{Room}
-use Rattle.state.specs.Checks.{Cramped, cramped_or}
+use Rattle.state.specs.Checks.{Cramped}
+use Rattle.state.proofs.ChecksLaws.{cramped_or}
 use Rattle.state.specs.declared.Run.{Run}
 use Rattle.instants.specs.Source.{Due}
 use Rattle.instants.specs.Once.{Effect, WorkOnce}

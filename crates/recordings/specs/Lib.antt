@@ -1,7 +1,5 @@
 pub mod Steps
 pub mod Runs
-pub mod Drops
-pub mod Cases
 pub mod Marked
 pub mod Trace
 pub mod Leads
@@ -23,4 +21,3 @@ pub mod Paced
 pub mod Along
 pub mod Totals
 pub mod Outcomes
-pub mod Fresh

@@ -54,15 +54,6 @@ rec_at_of Clean = 0
 rec_at_of (NoDeadline t i) = i
 rec_at_of (ListFull t q) = q
 
-pub rec_values : (o : RecordOutcome) → rec_values_of o ≡ cond (eqb (rec_number_of o) 0) [] (rec_tick_of o ∷ rec_at_of o ∷ [])
-rec_values Clean = refl
-rec_values (NoDeadline t i) = refl
-rec_values (ListFull t q) = refl
-
--- the numbers and values, with no other word
-pub rec_numbers : (t p : ℕ) → (rec_number_of Clean ≡ 0) × ((rec_number_of (NoDeadline t p) ≡ 13) × (rec_number_of (ListFull t p) ≡ 15))
-rec_numbers t p = (refl, (refl, refl))
-
 pub rec_all_values : (t p : ℕ) → (rec_values_of Clean ≡ []) × ((rec_values_of (NoDeadline t p) ≡ t ∷ p ∷ []) × (rec_values_of (ListFull t p) ≡ t ∷ p ∷ []))
 rec_all_values t p = (refl, (refl, refl))
 

@@ -1,1 +1,4 @@
 mod Ways
+pub mod AcceptedLaws
+pub mod ChecksLaws
+pub mod RoomLaws

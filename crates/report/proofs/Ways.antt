@@ -12,7 +12,7 @@ use Rattle.chain.specs.declared.Refusal.{Refusal}
 use Rattle.chain.specs.declared.Chain.{Chain}
 use Rattle.chain.specs.declared.ChainAnswer.{ChainAnswer}
 use Rattle.chainfile.specs.File.{chain_of, read_refusal, read_answer}
-use Rattle.chainfile.specs.Accepted.{read_accepts}
+use Rattle.chainfile.proofs.AcceptedLaws.{read_accepts}
 use Rattle.chainfile.specs.Packed.{room_check, not_written, Output}
 use Rattle.chainfile.specs.declared.LengthAnswer.{LengthAnswer}
 use Rattle.chainfile.proofs.Writing.{output_refused}
@@ -20,7 +20,8 @@ use Rattle.sizing.specs.Sizes.{analysis_of, sized}
 use Rattle.sizing.specs.Checks.{size_checks}
 use Rattle.sizing.specs.declared.AnalysisAnswer.{AnalysisAnswer}
 use Rattle.reporttext.specs.Text.{text_of}
-use Rattle.report.specs.Checks.{report_text, size_refusal, report_refusal, report_parts}
+use Rattle.report.specs.Checks.{report_text, size_refusal, report_refusal}
+use Rattle.report.proofs.ChecksLaws.{report_parts}
 
 -- the reader has answered for f, and then the sizing
 module _ (f : List ℕ) {a : ChainAnswer} (is : a ≡ read_answer f) where

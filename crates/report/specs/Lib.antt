@@ -1,3 +1,2 @@
 pub mod Checks
-pub mod Accepted
 pub mod Room

@@ -6,7 +6,6 @@
 --                      a number with its comma has none, nor have such numbers in a row
 --   heading-, queue-, busy-, refusal_one
 --                      each line of a report is one, and that of a refusal
---   report_feeds       a report of n queues has n + 2
 use Rattle.std.specs.Prelude.{◌≡◌, refl, List, [], ◌∷◌, ◌++◌, ℕ, zero, suc, ◌+◌, ◌-◌, get_or, take}
 use Rattle.std.proofs.Common.{sym, ap, ◌∙◌, append_assoc, arith}
 use Rattle.words.specs.Flat.{flat}
@@ -79,17 +78,6 @@ heading_one = record {
   ended = refl;
 }
 
-one_feed : {t : List ℕ} → OneLine t → feeds t ≡ 1
+pub one_feed : {t : List ℕ} → OneLine t → feeds t ≡ 1
 unfolding occurrences
 one_feed o = ap feeds o.ended ∙ occurrences_append 10 o.body (10 ∷ []) ∙ omega (arith, o.plain.none)
-
-lines_feeds : (a : Analysis) (i : ℕ) → feeds (lines a i) ≡ i
-unfolding flat occurrences
-lines_feeds a zero = refl
-lines_feeds a (suc i) =
-    omega (arith, occurrences_append 10 (lines a i) (line i (get_or a.queues i no_size)), lines_feeds a i, one_feed (queue_one i (get_or a.queues i no_size)))
-
-pub report_feeds : (a : Analysis) → feeds (text_of a) ≡ a.n + 2
-unfolding text_of
-report_feeds a =
-    omega (arith, occurrences_append 10 heading (lines a a.n ++ busy_line a), occurrences_append 10 (lines a a.n) (busy_line a), one_feed heading_one, lines_feeds a a.n, one_feed (busy_one a))

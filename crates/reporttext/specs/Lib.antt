@@ -4,4 +4,3 @@ pub mod Occurrences
 pub mod Feeds
 pub mod Short
 pub mod Refused
-pub mod Figures

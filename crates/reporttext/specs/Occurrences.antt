@@ -9,7 +9,8 @@ use Rattle.std.proofs.Math.Path.{refl}
 use mathlib.Core.List.{List, [], ◌∷◌, ◌++◌}
 use native.Mathlib.Omega.{arith}
 use Rattle.std.proofs.Common.{ne_eqb}
-use Rattle.decimal.specs.Digits.{Digits, decimal, decimal_digits}
+use Rattle.decimal.specs.Digits.{Digits, decimal}
+use Rattle.decimal.proofs.DigitsLaws.{decimal_digits}
 use Rattle.decimal.specs.Signed.{integer}
 
 -- how many bytes are b

@@ -5,13 +5,15 @@ use Prim.Native.Nat.{ℕ, ◌≤◌}
 use Rattle.words.specs.Table.{tab}
 use Rattle.chain.specs.Refusals.{fine, first, Silent, silent_as, first_fine, or_left, or_right}
 use Rattle.chain.specs.Checks.{chain_refusal}
-use Rattle.chain.specs.Sound.{sound}
+use Rattle.chain.proofs.SoundLaws.{sound}
 use Rattle.chain.specs.Faults.{Few}
 use Rattle.chain.specs.declared.Refusal.{Refusal}
 use Rattle.chain.specs.declared.Chain.{Chain}
-use Rattle.sizing.specs.Sizes.{analysis_of, sized, sized_refused, sized_fine, refused_with}
-use Rattle.sizing.specs.Checks.{size_checks, analyse_refusal, analyse_answer, capacity_test, capacity_check, run_answer, short_in, short_is_capacity, analyse_parts, run_parts}
-use Rattle.sizing.specs.Accepted.{analysed}
+use Rattle.sizing.specs.Sizes.{analysis_of, sized, refused_with}
+use Rattle.sizing.proofs.SizesLaws.{sized_refused, sized_fine}
+use Rattle.sizing.specs.Checks.{size_checks, analyse_refusal, analyse_answer, capacity_test, capacity_check, run_answer, short_in}
+use Rattle.sizing.proofs.ChecksLaws.{short_is_capacity, analyse_parts, run_parts}
+use Rattle.sizing.proofs.AcceptedLaws.{analysed}
 use Rattle.sizing.specs.Plan.{Draws, DrawnGives, Blank, SizedPlans, RunPlans}
 use Rattle.sizing.specs.declared.AnalysisAnswer.{AnalysisAnswer}
 use Rattle.sizing.specs.declared.Doubts.{Doubts}

@@ -16,7 +16,8 @@ use Rattle.chain.specs.declared.Refusal.{Refusal}
 use Rattle.chain.specs.declared.Chain.{Chain}
 use Rattle.rates.specs.Load.{capped}
 use Rattle.rates.specs.declared.Rate.{Rate}
-use Rattle.sizing.specs.Sizes.{minimum_of, size_by, sized_said}
+use Rattle.sizing.specs.Sizes.{minimum_of, size_by}
+use Rattle.sizing.proofs.SizesLaws.{sized_said}
 use Rattle.sizing.specs.Checks.{too_large, size_checks, capacity_test, capacity_check, short_alike}
 use Rattle.sizing.specs.Plan.{room_by, short_at, DrawnGives, Drawn, drawn_none, drawn_more, drawn_plans}
 use Rattle.sizing.specs.declared.Analysis.{Analysis}

@@ -15,13 +15,16 @@ use Rattle.chain.specs.Sound.{Sound}
 use Rattle.chain.specs.declared.Refusal.{Refusal}
 use Rattle.chain.specs.declared.Chain.{Chain}
 use Rattle.onequeue.specs.declared.Row.{Row}
-use Rattle.rates.specs.Rates.{rate_after, Step, stretch_below}
+use Rattle.rates.specs.Rates.{rate_after, Step}
+use Rattle.rates.proofs.RatesLaws.{stretch_below}
 use Rattle.rates.specs.Load.{capped, capped_step, capped_above, capped_same, capped_within, capped_below, Small}
 use Rattle.rates.specs.declared.Rate.{Rate}
 use Rattle.sizing.specs.Nodes.{x_of, y_of, stretch_of, x_pos, y_stretch, grows}
 use Rattle.sizing.specs.Load.{busy_in, busy_of, cycle_of, busy_next}
-use Rattle.sizing.specs.Sizes.{row_by, row_known, size_by, size_of, no_size, analysis_of, sized, sized_refused, sized_fine, empty_analysis}
-use Rattle.sizing.specs.Checks.{limit, too_large, too_large_true, too_large_false, InLimit, FirstTooLarge, size_checks, rate_check, load_check, rate_exact, rates_silent, load_exact, load_silent}
+use Rattle.sizing.specs.Sizes.{row_by, row_known, size_by, size_of, no_size, analysis_of, sized, empty_analysis}
+use Rattle.sizing.proofs.SizesLaws.{sized_refused, sized_fine}
+use Rattle.sizing.specs.Checks.{limit, too_large, InLimit, FirstTooLarge, size_checks, rate_check, load_check}
+use Rattle.sizing.proofs.ChecksLaws.{too_large_true, too_large_false, rate_exact, rates_silent, load_exact, load_silent}
 use Rattle.sizing.specs.declared.QueueSize.{QueueSize}
 use Rattle.sizing.specs.declared.Analysis.{Analysis}
 

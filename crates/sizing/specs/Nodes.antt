@@ -16,7 +16,8 @@ use native.Mathlib.Omega.{arith}
 use Rattle.chain.specs.Record.{row_of}
 use Rattle.chain.specs.Sound.{Sound}
 use Rattle.chain.specs.declared.Chain.{Chain}
-use Rattle.rates.specs.Rates.{next_x, next_y, stretch, next_pos, next_stretch, next_balance, stretch_pos, stretch_least}
+use Rattle.rates.specs.Rates.{next_x, next_y, stretch}
+use Rattle.rates.proofs.RatesLaws.{next_pos, next_stretch, next_balance, stretch_pos, stretch_least}
 
 -- "N_0 has x=1"; "x_(i+1) = p×x_i/g", with queue i's p and c
 unfoldable pub x_of : Chain → ℕ → ℕ

@@ -2,8 +2,6 @@
 --   start q                  what a queue holds at a fresh start: nothing
 --   least_of q               its minimum b with its naming count; minimum_of q, naming_of q: each of the two
 --   capacity_of q, margin_of q the capacity in force, and how much that is above the minimum
---   margin_unwritten, _written
---                            the margin where the file says 0, and where it says a capacity
 --   row_by q, Parted, row_known
 --                            the numbers that the queue's code is handed
 --   size_by q x y            one queue's line of the analysis, its consumer having the rate x in y
@@ -12,9 +10,6 @@
 --   analysis_of c            the whole
 --   sized r c                the answer of a call that makes an analysis: the refusal r, or the analysis where r is silent
 --   refused_with N L         the answer that is all zero but for number and place, as each refused one is (sized_refused)
---   sized_fine               an answer that is not refused
---   sized_said               what such an answer says is the refusal that it was made of
---   size_at                  what the analysis says of queue i
 --   minimum-, naming-, capacity_most
 --                            how large the numbers of a sound queue's line can be
 use Rattle.std.specs.Prelude.{◌≡◌, refl, ◌≢◌, cond, ℕ, suc, ◌/◌, ◌<◌, ◌≤◌, eqb, get_or, replicate, ℤ, pos}
@@ -28,8 +23,10 @@ use Rattle.chain.specs.declared.Refusal.{Refusal}
 use Rattle.chain.specs.declared.Chain.{Chain}
 use Rattle.arith.specs.Gcd.{gcd}
 use Rattle.onequeue.specs.Known.{Known}
-use Rattle.onequeue.specs.Least.{least, minimum_fits, naming_fits}
-use Rattle.onequeue.specs.Capacity.{capacity, margin, capacity_fits, capacity_written, margin_zero}
+use Rattle.onequeue.specs.Least.{least}
+use Rattle.onequeue.proofs.LeastLaws.{minimum_fits, naming_fits}
+use Rattle.onequeue.specs.Capacity.{capacity, margin}
+use Rattle.onequeue.proofs.CapacityLaws.{capacity_fits, capacity_written, margin_zero}
 use Rattle.onequeue.specs.declared.Row.{Row}
 use Rattle.onequeue.specs.declared.Shown.{Shown}
 use Rattle.sizing.specs.Nodes.{x_of, y_of}
@@ -59,12 +56,6 @@ capacity_of q = capacity q.capacity (minimum_of q)
 -- "margin: B − b, signed; with B=0 the capacity is b and the margin 0"
 abbrev pub margin_of : Queue → ℤ
 margin_of q = margin (capacity_of q) (minimum_of q)
-
-pub margin_unwritten : (q : Queue) → q.capacity ≡ 0 → margin_of q ≡ pos 0
-margin_unwritten q e = rw e (margin_zero (minimum_of q))
-
-pub margin_written : (q : Queue) → q.capacity ≢ 0 → margin_of q ≡ margin q.capacity (minimum_of q)
-margin_written q n = ap (λ (k : ℕ). margin k (minimum_of q)) (capacity_written q.capacity (minimum_of q) n)
 
 -- the numbers that the queue's code is handed: with the gcd of produce and consume, and what it leaves of consume
 unfoldable pub row_by : Queue → Row
@@ -110,22 +101,6 @@ sized r c = record { number = r.number; place = r.place; analysis = cond (eqb r.
 -- all zero but for number and place
 abbrev pub refused_with : ℕ → ℕ → AnalysisAnswer
 refused_with N L = record { number = N; place = L; analysis = empty_analysis }
-
-pub sized_refused : (r : Refusal) (c : Chain) → (Silent r → ⊥) → refused_with r.number r.place ≡ sized r c
-unfolding sized
-sized_refused r c h = simp (ne_eqb _ _ h)
-
-pub sized_fine : {r : Refusal} (c : Chain) → fine ≡ r → record { number = 0; place = 0; analysis = analysis_of c } ≡ sized r c
-unfolding sized
-sized_fine c e = rw (← e)
-
-pub sized_said : {a : AnalysisAnswer} (r : Refusal) (c : Chain) → a ≡ sized r c → refused a.number a.place ≡ r
-unfolding sized
-sized_said r c e = ap (λ (b : AnalysisAnswer). refused b.number b.place) e
-
-pub size_at : (c : Chain) (i : ℕ) → c.n ≤ 16 → i < c.n → get_or (analysis_of c).queues i no_size ≡ size_of c i
-unfolding analysis_of
-size_at c i few l = slot_used (size_of c) no_size 16 c.n i no_size (omega arith) l
 
 -- how large minimum, naming count and capacity of a sound queue can be
 pub minimum_most : {q : Queue} → SoundRow q → minimum_of q ≤ 131069

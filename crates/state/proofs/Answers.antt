@@ -14,7 +14,8 @@ use Rattle.sizing.specs.declared.AnalysisAnswer.{AnalysisAnswer}
 use Rattle.state.specs.State.{empty_run, fresh_empty, answered, answered_refused, answered_fine, refused_with}
 use Rattle.state.specs.Fired.{fired}
 use Rattle.state.specs.Checks.{state_check}
-use Rattle.state.specs.Fire.{fresh_answer, fresh_state, fresh_refused, node_checks, fire_checks, fire_refusal, fire_answer, Firing, fire_parts, firing_is}
+use Rattle.state.specs.Fire.{fresh_answer, fresh_state, fresh_refused, node_checks, fire_checks, fire_refusal, fire_answer, Firing}
+use Rattle.state.proofs.FireLaws.{fire_parts, firing_is}
 use Rattle.state.specs.declared.Run.{Run}
 
 -- a fresh start: what the analysis is refused with, and an empty state either way

@@ -16,7 +16,8 @@ use Rattle.chain.specs.declared.Refusal.{Refusal}
 use Rattle.sizing.specs.Checks.{limit}
 use Rattle.sizing.specs.Sizes.{capacity_of}
 use Rattle.state.specs.State.{count_at, held_at}
-use Rattle.state.specs.Checks.{over, spent, idle, cramped, count_check, room_check, count_silent, count_exact, Planned, planned_capacity}
+use Rattle.state.specs.Checks.{over, spent, idle, cramped, count_check, room_check, Planned, planned_capacity}
+use Rattle.state.proofs.ChecksLaws.{count_silent, count_exact}
 use Rattle.state.specs.Fire.{node_checks}
 use Rattle.state.specs.declared.Run.{Run}
 

@@ -1,37 +1,32 @@
 -- Manual firing (01, Firing), and what a call that gives a state answers.
 --   fresh_answer c             the answer of a fresh start: 2, 4, 5, 6, 7, then the empty state (fresh_refusal, fresh_state, fresh_refused)
 --   node_checks c s i          9, 11 and 12: the checks of a firing of N_i in a state that 17 has passed
---   node_lent                  which look at counts and contents alone
 --   fire_checks c s i          the checks of manual firing, in order, never 8
 --   fire_refusal c s i, fire_answer c s i
 --                              what a firing is refused with, and the whole answer: the state as it was, or after the firing
---   fire_parts                 the checks of the analysis, then 17, then 9, 11 and 12
---   fire_earlier               2, 4, 5, 6 and 7 are said exactly when the analysis says them
---   fire_17, fire_9, fire_11, fire_12
---                              when a firing is refused with each number of its own
---   fire_accepts               it is not refused exactly when the chain is accepted, the state passes 17 and the firing may be
 --   Firing c s i, firing_is    the same as a record, which the code of a manual firing asks
---   fire_accepted, fire_refused
---                              the state that it gives back
 use Rattle.std.proofs.Math.Logic.Iff
 use Rattle.std.specs.Prelude.{◌≡◌, ◌↔◌, ◌≢◌, ◌⊎◌, List, [], ◌∷◌, ◌++◌, ℕ, zero, suc, ◌+◌, ◌≤◌, ◌<◌, get_or, take}
 use Rattle.std.proofs.Math.Path.{refl}
 use Rattle.std.proofs.Common.{sym, eq-eqb, ne_eqb}
 use native.Mathlib.Omega.{arith}
-use Rattle.chain.specs.Refusals.{refused, fine, first, or_else, first_append, Silent, Silents, or_silents, silent_as, first_silent, Numbered, exact_at, said_earlier, numbered_append}
+use Rattle.chain.specs.Refusals.{refused, fine, first, or_else, first_append, Silent, Silents, or_silents, silent_as, first_silent, Numbered, said_earlier, numbered_append}
+use Rattle.chain.proofs.RefusalsLaws.{exact_at}
 use Rattle.chain.specs.Record.{row_of}
-use Rattle.chain.specs.Checks.{range_check, order_check, count_only}
+use Rattle.chain.specs.Checks.{range_check, order_check}
+use Rattle.chain.proofs.ChecksLaws.{count_only}
 use Rattle.chain.specs.declared.Refusal.{Refusal}
 use Rattle.chain.specs.declared.Chain.{Chain}
 use Rattle.sizing.specs.Load.{busy_in}
 use Rattle.sizing.specs.Sizes.{capacity_of}
-use Rattle.sizing.specs.Checks.{limit, analyse_checks, analyse_refusal, rate_check, analyse_numbers, analyse_numbered}
-use Rattle.sizing.specs.Accepted.{Accepted, analyse_accepts}
+use Rattle.sizing.specs.Checks.{limit, analyse_checks, analyse_refusal, rate_check, analyse_numbers}
+use Rattle.sizing.proofs.ChecksLaws.{analyse_numbered}
+use Rattle.sizing.specs.Accepted.{Accepted}
+use Rattle.sizing.proofs.AcceptedLaws.{analyse_accepts}
 use Rattle.state.specs.State.{count_at, held_at, empty_run, fresh_run, answered}
 use Rattle.state.specs.Fired.{fired, Over, May}
 use Rattle.state.specs.Checks as own
-use Rattle.state.specs.Checks.{state_check, lent_run, count_check, over_check, cramped, room_check, FirstBroken, StateSound, state_exact}
-use Rattle.state.specs.Checks.{over_exact, room_exact, state_silent, over_silent, room_silent, state_only, over_only, room_only}
+use Rattle.state.specs.Checks.{state_check, lent_run, count_check, over_check, cramped, room_check, FirstBroken, StateSound}
 use Rattle.state.specs.declared.Run.{Run}
 use Rattle.state.specs.declared.RunAnswer.{RunAnswer}
 
@@ -43,12 +38,6 @@ fresh_answer c = answered (analyse_refusal c) empty_run (fresh_run c)
 -- "answers 11, then 12; 9 .. tested before 11 and 12"
 abbrev pub node_checks : Chain → Run → ℕ → List Refusal
 node_checks c s i = count_check c s i ∷ over_check c s i ∷ room_check c s i ∷ []
-
--- they look at counts and contents alone
-pub node_lent : (c : Chain) (s : Run) (i : ℕ) → first (node_checks c (lent_run s.counts s.held []) i) ≡ first (node_checks c s i)
-unfolding first cramped
-node_lent c s zero = refl
-node_lent c s (suc i) = refl
 
 -- "manual firing, runs and deadline questions check the analysis first, then their own numbers; every call that is handed a run state checks 17", which is
 -- "tested after 8 and before 9"; 8 is of "runs and deadlines only"
@@ -85,75 +74,9 @@ module _ (c : Chain) where
   unfolding fresh_answer answered
   fresh_refused n = simp (ne_eqb _ _ n)
 
-module _ (c : Chain) (s : Run) (i : ℕ) where
-  pub fire_parts : fire_refusal c s i ≡ or_else (analyse_refusal c) (or_else (state_check c s) (first (node_checks c s i)))
-  unfolding fire_refusal analyse_refusal first
-  fire_parts = first_append (analyse_checks c) (state_check c s ∷ node_checks c s i)
-
 -- the numbers of its checks, in order: each speaks with its own
 abbrev pub node_numbers : List ℕ
 node_numbers = 17 ∷ 9 ∷ 11 ∷ 12 ∷ []
 
 abbrev pub fire_numbers : List ℕ
 fire_numbers = analyse_numbers ++ node_numbers
-
-module _ (c : Chain) (s : Run) (i : ℕ) where
-  node_numbered : Numbered node_numbers (state_check c s ∷ node_checks c s i)
-  unfolding Numbered
-  node_numbered = (state_only c s, (own.count_only c s i, (over_only c s i, (room_only c s i, tt))))
-
-  pub fire_numbered : Numbered fire_numbers (fire_checks c s i)
-  fire_numbered = numbered_append analyse_numbers node_numbers (analyse_checks c) (state_check c s ∷ node_checks c s i) (analyse_numbered c) node_numbered
-
--- a firing is refused with a number exactly when no earlier check speaks and the number's own condition holds
-module _ (c : Chain) (s : Run) (i L : ℕ) where
-  fire_at : (k : ℕ) → k < 9 → (fire_refusal c s i ≡ refused (get_or fire_numbers k 0) L) ↔ (Silents (take k (fire_checks c s i)) × (get_or (fire_checks c s i) k fine ≡ refused (get_or fire_numbers k 0) L))
-  unfolding fire_refusal
-  fire_at k l = exact_at fire_numbers (fire_checks c s i) (fire_numbered c s i) tt k L l
-
-  pub fire_17 : (fire_refusal c s i ≡ refused 17 L) ↔ (Silents (analyse_checks c) × FirstBroken c s L)
-  fire_17 = Iff.trans (fire_at 5 (omega arith)) (Iff.and Iff.rfl (state_exact c s L))
-
-  pub fire_9 : (fire_refusal c s i ≡ refused 9 L) ↔ (Silents (analyse_checks c ++ (state_check c s ∷ [])) × (((i ≤ c.n) × (count_at s i ≡ limit)) × (L ≡ i)))
-  fire_9 = Iff.trans (fire_at 6 (omega arith)) (Iff.and Iff.rfl (own.count_exact c s i L))
-
-  pub fire_11 : (fire_refusal c s i ≡ refused 11 L) ↔ (Silents (analyse_checks c ++ (state_check c s ∷ count_check c s i ∷ [])) × (((c.n < i) ⊎ (Over c s i → ⊥)) × (L ≡ i)))
-  fire_11 = Iff.trans (fire_at 7 (omega arith)) (Iff.and Iff.rfl (over_exact c s i L))
-
-  pub fire_12 : (fire_refusal c s i ≡ refused 12 L) ↔ (Silents (analyse_checks c ++ (state_check c s ∷ count_check c s i ∷ over_check c s i ∷ []))
-      × (((i < c.n) × (capacity_of (row_of c i) < held_at s i + (row_of c i).produce)) × (L ≡ i)))
-  fire_12 = Iff.trans (fire_at 8 (omega arith)) (Iff.and Iff.rfl (room_exact c s i L))
-
-  -- what the analysis says stands, and nothing else has its numbers
-  pub fire_earlier : (N : ℕ) → N ≢ 0 → N < 9 → (fire_refusal c s i ≡ refused N L) ↔ (analyse_refusal c ≡ refused N L)
-  unfolding fire_refusal analyse_refusal
-  fire_earlier N some low =
-      said_earlier N L some (analyse_checks c) node_numbers (state_check c s ∷ node_checks c s i) (node_numbered c s i) (λ e. omega arith, (λ e. omega arith, (λ e. omega arith, (λ e. omega arith, tt))))
-
-module _ (c : Chain) (s : Run) (i : ℕ) where
-  -- a firing is not refused exactly when the chain is accepted, the state passes 17, and the firing is one that may be
-  pub fire_accepts : Silent (fire_refusal c s i) ↔ (Accepted c × (StateSound c s × May c s i))
-  unfolding Silents
-  fire_accepts =
-      Iff.trans (silent_as (fire_parts c s i), silent_as (sym (fire_parts c s i)))
-      (Iff.trans (or_silents _ _) (Iff.and (analyse_accepts c) (Iff.trans (or_silents _ _) (Iff.and (state_silent c s) (Iff.trans (first_silent (node_checks c s i)) (out, back))))))
-    where
-      out : Silents (node_checks c s i) → May c s i
-      out h =
-          let o = (over_silent c s i).0 h.1.0 in
-          record { node = o.0; countable = (own.count_silent c s i o.0).0 h.0; over = o.1; room = (room_silent c s i).0 h.1.1.0 }
-
-      back : May c s i → Silents (node_checks c s i)
-      back m = ((own.count_silent c s i m.node).1 m.countable, ((over_silent c s i).1 (m.node, m.over), ((room_silent c s i).1 m.room, tt)))
-
-  pub firing_is : Silent (fire_refusal c s i) ↔ Firing c s i
-  firing_is = Iff.trans fire_accepts (λ h. record { chain = h.0; state = h.1.0; may = h.1.1 }, λ f. (f.chain, (f.state, f.may)))
-
-  -- what a firing gives back: the state after it, or the state as it was
-  pub fire_accepted : Silent (fire_refusal c s i) → (fire_answer c s i).run ≡ fired c s i
-  unfolding fire_answer answered
-  fire_accepted z = simp (eq-eqb _ _ z)
-
-  pub fire_refused : (Silent (fire_refusal c s i) → ⊥) → (fire_answer c s i).run ≡ s
-  unfolding fire_answer answered
-  fire_refused n = simp (ne_eqb _ _ n)

@@ -14,9 +14,10 @@ use Rattle.chain.specs.Refusals.{refused, Silent, number_of}
 use Rattle.chain.specs.declared.Chain.{Chain}
 use Rattle.state.specs.declared.Run.{Run}
 use Rattle.flow.specs.Flow.{count_in, held_in, Shows}
-use Rattle.instants.specs.Lacking.{lacking_exact}
+use Rattle.instants.proofs.LackingLaws.{lacking_exact}
 use Rattle.instants.specs.Steps.{sourced, lacking, chosen, begun}
-use Rattle.instants.specs.Kept.{sourced_held, SourceStep, sourced_clean, begun_over, begun_silent, begun_undated, chosen_low}
+use Rattle.instants.specs.Kept.{SourceStep}
+use Rattle.instants.proofs.KeptLaws.{sourced_held, sourced_clean, begun_over, begun_silent, begun_undated, chosen_low}
 use Rattle.instants.specs.declared.Outcome.{Outcome}
 use Rattle.instants.specs.declared.Outcome.TheVariants.{Clean, NoDeadline}
 use Rattle.instants.specs.declared.Ticked.{Ticked}

@@ -18,14 +18,16 @@ use Rattle.state.specs.State.{count_at, done_at}
 use Rattle.state.specs.declared.Run.{Run}
 use Rattle.flow.specs.Flow.{Shows}
 use Rattle.instants.specs.Steps.{clean, worked, ended, finish, finished}
-use Rattle.instants.specs.Kept.{finish_others, worked_counts, worked_held, worked_clock, worked_same, works_unended, works_on, works_ended, works_ends}
+use Rattle.instants.proofs.KeptLaws.{finish_others, worked_counts, worked_held, worked_clock, worked_same, works_unended, works_on, works_ended, works_ends}
 use Rattle.instants.specs.Runs.{unclean_overflow}
-use Rattle.instants.specs.Quiet.{worked_in, worked_done}
+use Rattle.instants.specs.Quiet.{worked_in}
+use Rattle.instants.proofs.QuietLaws.{worked_done}
 use Rattle.instants.specs.declared.Outcome.{Outcome}
 use Rattle.instants.specs.declared.Outcome.TheVariants.{Clean}
 use Rattle.instants.specs.declared.Ticked.{Ticked}
 use Rattle.traces.specs.Trace.{tracing, finish_entry, finish_trace}
-use Rattle.traces.specs.Traced.{tracing_none, finish_entry_law}
+use Rattle.traces.specs.Traced.{tracing_none}
+use Rattle.traces.proofs.TracedLaws.{finish_entry_law}
 use Rattle.steps.specs.Lent.{WorkFits, ended_at, EndsIn, Ends, FinishedTo, FinishedGives}
 use Rattle.steps.specs.Laws.{shows_as}
 use Rattle.steps.specs.Passed.{CompletesIn, Completes, CompletedTo, CompletedGives}

@@ -17,7 +17,8 @@ use Rattle.std.specs.Int.{◌∣◌}
 use Rattle.std.proofs.Math.Nat.{div-add-mod, dvd-mul_right, dvd_of_mod-eq-zero}
 use Rattle.sizing.specs.Checks.{limit}
 use Rattle.sizing.specs.Plan.{work_in, period_in}
-use Rattle.instants.specs.Quiet.{worked_in, rests_until}
+use Rattle.instants.specs.Quiet.{worked_in}
+use Rattle.instants.proofs.QuietLaws.{rests_until}
 use Rattle.steps.specs.Lent.{WorkFits}
 
 -- the work of N_i, where there is one, is below its execution time

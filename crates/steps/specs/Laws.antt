@@ -22,7 +22,8 @@ use Rattle.dates.specs.Dues.{Shown}
 use Rattle.instants.specs.Steps.{clean, overflowed, sourced, worked, with_done, finish, finished}
 use Rattle.instants.specs.Runs.{unclean_overflow, unclean_undated}
 use Rattle.instants.specs.Filled.{cramped_as}
-use Rattle.instants.specs.Kept.{source_may, worked_counts, worked_held, worked_clock, works_ends, finish_may, fired_done}
+use Rattle.instants.specs.Kept.{source_may, fired_done}
+use Rattle.instants.proofs.KeptLaws.{worked_counts, worked_held, worked_clock, works_ends, finish_may}
 use Rattle.instants.specs.Quiet.{worked_in}
 use Rattle.instants.specs.declared.Outcome.TheVariants.{Clean, Overflowed, NoDeadline}
 use Rattle.instants.specs.declared.Ticked.{Ticked}

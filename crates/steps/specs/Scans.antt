@@ -26,7 +26,7 @@ use Rattle.state.specs.declared.Run.{Run}
 use Rattle.flow.specs.Flow.{threshold_in, held_in, size_in, Shows}
 use Rattle.deadline.specs.Deadline.{deadline, index_check}
 use Rattle.dates.specs.Question.{never, dated_had, dated_exact}
-use Rattle.instants.specs.Lacking.{lack_says, lack_silent, lacking_silent}
+use Rattle.instants.proofs.LackingLaws.{lack_says, lack_silent, lacking_silent}
 use Rattle.instants.specs.Steps.{next, lacking_test, lacking, as_early, choose, chosen}
 use Rattle.steps.specs.Lent.{Keeps, lack_of, LackingGives, ChosenGives}
 

@@ -12,13 +12,15 @@ use Rattle.state.specs.declared.Run.{Run}
 use Rattle.history.specs.History.{Entry}
 use Rattle.flow.specs.Flow.{Shows}
 use Rattle.instants.specs.Steps.{clean, sourced, lacking, chosen, worked, finished, begun, tick}
-use Rattle.instants.specs.Kept.{begun_stays, SourceStep, sourced_clean, begun_clean, tick_ends, tick_works}
-use Rattle.instants.specs.Filled.{lacking_as, chosen_as}
-use Rattle.instants.specs.Kept.{chosen_low, chosen_over, worked_counts, worked_held, worked_clock, finished_clock}
+use Rattle.instants.specs.Kept.{SourceStep}
+use Rattle.instants.proofs.KeptLaws.{begun_stays, sourced_clean, begun_clean, tick_ends, tick_works}
+use Rattle.instants.proofs.FilledLaws.{lacking_as, chosen_as}
+use Rattle.instants.proofs.KeptLaws.{chosen_low, chosen_over, worked_counts, worked_held, worked_clock, finished_clock}
 use Rattle.instants.specs.declared.Outcome.TheVariants.{Clean}
 use Rattle.instants.specs.declared.Ticked.{Ticked}
 use Rattle.traces.specs.Trace.{tracing, source_entry, finish_trace}
-use Rattle.traces.specs.Traced.{tracing_none, tick_entries, tick_entries_none}
+use Rattle.traces.specs.Traced.{tracing_none}
+use Rattle.traces.proofs.TracedLaws.{tick_entries, tick_entries_none}
 use Rattle.steps.specs.Lent.{fired_at, outcome_as}
 use Rattle.steps.specs.Laws.{as_clean, as_unclean}
 use Rattle.steps.specs.Passed.{Known, BegunTo, BegunGives, CompletesIn, Completes, CompletedTo, CompletedGives, PassIn, Passes, PassTo, PassGives}

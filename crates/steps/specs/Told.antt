@@ -6,12 +6,12 @@ use Rattle.chain.specs.declared.Chain.{Chain}
 use Rattle.state.specs.State.{count_at}
 use Rattle.state.specs.declared.Run.{Run}
 use Rattle.history.specs.History.{Entry, nodes, times}
-use Rattle.history.specs.Laws.{counted_from}
+use Rattle.history.proofs.Laws.{counted_from}
 use Rattle.instants.specs.Steps.{tick}
 use Rattle.instants.specs.Filled.{Running}
 use Rattle.instants.specs.Kept.{Countable}
 use Rattle.traces.specs.Trace.{tick_trace, resting}
-use Rattle.traces.specs.Traced.{tick_traced}
+use Rattle.traces.proofs.TracedLaws.{tick_traced}
 use Rattle.steps.specs.Lent.{fired_at}
 use Rattle.steps.specs.Passed.{PassTo}
 use Rattle.steps.specs.declared.Passed.{Passed}

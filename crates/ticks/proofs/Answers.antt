@@ -8,7 +8,8 @@ use Rattle.chain.specs.Faults.{Few}
 use Rattle.chain.specs.Refusals.{refused, or_else, Silent, silent_as, or_left, or_right}
 use Rattle.chain.specs.declared.Refusal.{Refusal}
 use Rattle.chain.specs.declared.Chain.{Chain}
-use Rattle.sizing.specs.Accepted.{Accepted, run_accepts}
+use Rattle.sizing.specs.Accepted.{Accepted}
+use Rattle.sizing.proofs.AcceptedLaws.{run_accepts}
 use Rattle.sizing.specs.Plan.{RunPlans}
 use Rattle.state.specs.State.{empty_run, fresh_run}
 use Rattle.state.specs.Checks.{state_check, planned_run}
@@ -17,10 +18,13 @@ use Rattle.flow.specs.Flow.{Shows}
 use Rattle.flow.specs.Poured.{Showing}
 use Rattle.instants.specs.Checks.{longest, clock_check, spent_check, tick_refusal, tick_answer, deadline_run_refusal, deadline_run_answer}
 use Rattle.instants.specs.Steps.{onward, tick, ticks}
-use Rattle.instants.specs.Runs.{onward_none, ticks_none, ticks_suc}
-use Rattle.instants.specs.Refusals.{Ticking, ran_as, refused_as, tick_parts, tick_ran, tick_refused, ticking_is, length_exact, deadline_run_parts, deadline_run_accepts, deadline_run_ran, deadline_run_refused}
-use Rattle.instants.specs.Filled.{Filled, running_filled}
-use Rattle.instants.specs.Fresh.{run_is_ticks}
+use Rattle.instants.specs.Runs.{onward_none}
+use Rattle.instants.proofs.RunsLaws.{ticks_none, ticks_suc}
+use Rattle.instants.specs.Refusals.{Ticking, ran_as, refused_as}
+use Rattle.instants.proofs.RefusalsLaws.{tick_parts, tick_ran, tick_refused, ticking_is, length_exact, deadline_run_parts, deadline_run_accepts, deadline_run_ran, deadline_run_refused}
+use Rattle.instants.specs.Filled.{Filled}
+use Rattle.instants.proofs.FilledLaws.{running_filled}
+use Rattle.instants.proofs.FreshLaws.{run_is_ticks}
 use Rattle.ticks.specs.Left.{refused_with, left_by, left_is}
 use Rattle.ticks.specs.Runs.{Lends, RanGives, lent_once, lends_once, lent_fresh, lends_fresh}
 use Rattle.ticks.specs.declared.Ended.{Ended}

@@ -12,7 +12,7 @@ use Rattle.sizing.specs.Checks.{limit}
 use Rattle.state.specs.State.{count_at}
 use Rattle.state.specs.declared.Run.{Run}
 use Rattle.instants.specs.Checks.{longest, clock_check, spent_check, spent_test}
-use Rattle.instants.specs.Refusals.{clock_exact, clock_silent, spent_exact, spent_silent}
+use Rattle.instants.proofs.RefusalsLaws.{clock_exact, clock_silent, spent_exact, spent_silent}
 
 pub late_clock : (c : Chain) (s : Run) → longest ≤ s.clock → refused 9 0 ≡ or_else (clock_check s) (spent_check c s)
 late_clock c s h = or_left (spent_check c s) (sym ((clock_exact s 0).1 (h, refl))) (λ z. absurd (omega arith))

@@ -25,10 +25,13 @@ use Rattle.state.specs.declared.Run.{Run}
 use Rattle.dates.specs.Question.{dated_of}
 use Rattle.dates.specs.Dues.{Shown, Dated, DatedGives}
 use Rattle.instants.specs.Steps.{onward, sourced, next, lacking, chosen, tick, ticks}
-use Rattle.instants.specs.Runs.{ticks_none, ticks_suc, onward_goes, onward_stops}
-use Rattle.instants.specs.Kept.{sourced_others, sourced_held, TickStep, tick_step}
-use Rattle.instants.specs.Filled.{lacking_as, chosen_as}
-use Rattle.instants.specs.Quiet.{worked_in, worked_for, for_none, quiet_filled, quiet_run}
+use Rattle.instants.specs.Runs.{onward_goes, onward_stops}
+use Rattle.instants.proofs.RunsLaws.{ticks_none, ticks_suc}
+use Rattle.instants.specs.Kept.{TickStep}
+use Rattle.instants.proofs.KeptLaws.{sourced_others, sourced_held, tick_step}
+use Rattle.instants.proofs.FilledLaws.{lacking_as, chosen_as}
+use Rattle.instants.specs.Quiet.{worked_in, worked_for}
+use Rattle.instants.proofs.QuietLaws.{for_none, quiet_filled, quiet_run}
 use Rattle.instants.specs.declared.Outcome.TheVariants.{Clean}
 use Rattle.instants.specs.declared.Ticked.{Ticked}
 use Rattle.steps.specs.Lent.{Stands}

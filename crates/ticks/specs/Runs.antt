@@ -18,8 +18,9 @@ use Rattle.flow.specs.Poured.{Showing}
 use Rattle.dates.specs.Dues.{Shown}
 use Rattle.instants.specs.Steps.{ticks}
 use Rattle.instants.specs.Checks.{longest}
-use Rattle.instants.specs.Filled.{Filled, running_filled}
-use Rattle.instants.specs.Fresh.{fresh_running}
+use Rattle.instants.specs.Filled.{Filled}
+use Rattle.instants.proofs.FilledLaws.{running_filled}
+use Rattle.instants.proofs.FreshLaws.{fresh_running}
 use Rattle.instants.specs.declared.Ticked.{Ticked}
 use Rattle.steps.specs.Lent.{outcome_as}
 use Rattle.ticks.specs.declared.Ended.{Ended}

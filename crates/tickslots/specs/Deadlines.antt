@@ -14,9 +14,11 @@ use Rattle.chain.specs.Refusals.{refused, test, first, or_else}
 use Rattle.chain.specs.Record.{row_of}
 use Rattle.chain.specs.declared.Chain.{Chain}
 use Rattle.sizing.specs.Checks.{limit, run_refusal}
-use Rattle.slots.specs.Chains.{AlikeChains, run_alike}
+use Rattle.slots.specs.Chains.{AlikeChains}
+use Rattle.slots.proofs.ChainsLaws.{run_alike}
 use Rattle.deadline.specs.Deadline.{earlier, deadline, index_check}
-use Rattle.dates.specs.Question.{answered_due, refused_with, answered_refused, deadline_refusal, deadline_answer, deadline_parts, deadline_accepts}
+use Rattle.dates.specs.Question.{answered_due, refused_with, answered_refused, deadline_refusal, deadline_answer}
+use Rattle.dates.proofs.QuestionLaws.{deadline_parts, deadline_accepts}
 
 -- of no node of the chain 11 is all that a question adds to the checks of a run
 no_node : (c : Chain) (i k : ℕ) → c.n < i → deadline_refusal c i k ≡ or_else (run_refusal c) (refused 11 i)

@@ -1,5 +1,4 @@
 pub mod Slots
 pub mod Deadlines
 pub mod Alike
-pub mod Kept
 pub mod Answers

@@ -4,7 +4,7 @@ use Rattle.chain.specs.declared.Chain.{Chain}
 use Rattle.state.specs.declared.Run.{Run}
 use Rattle.slots.specs.Runs.{Whole}
 use Rattle.instants.specs.declared.TickAnswer.{TickAnswer}
-use Rattle.tickslots.specs.Answers.{past_kept}
+use Rattle.tickslots.proofs.AnswersLaws.{past_kept}
 use Rattle.ardenquill.specs.declared.OutcomeAnswer.{OutcomeAnswer}
 use Rattle.ardenquill.specs.Ticks.{tick_answer}
 use Rattle.ardenquill.specs.Flat.{coded, is_clean, unclean_stays}

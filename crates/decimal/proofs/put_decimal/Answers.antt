@@ -1,6 +1,7 @@
 -- `decimal::put_decimal` meets its contract: storing the digits that are left now gives what storing all of them gave at first.
 use Rattle.std.proofs.Common.{◌≡◌, ◌+◌, ◌-◌, ◌/◌, length, ◌∙◌, arith, length-set}
-use Rattle.decimal.specs.Digits.{decimal, decimal_some, decimal_length}
+use Rattle.decimal.specs.Digits.{decimal}
+use Rattle.decimal.proofs.DigitsLaws.{decimal_some, decimal_length}
 use Rattle.decimal.proofs.Digits.{put_digit, put_only}
 use Rattle.decimal.proofs.put_decimal.Goals as goal
 

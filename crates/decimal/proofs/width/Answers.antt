@@ -1,6 +1,7 @@
 -- `decimal::width` meets its contract: as long as n reaches the power of ten with k zeros, it has more than k digits, and below it no more than k.
 use Rattle.std.proofs.Common.{◌≡◌, ℕ, ◌+◌, ◌*◌, ◌^◌, ◌≤◌, ◌<◌, length, refl, arith, pow-suc, add-one}
-use Rattle.decimal.specs.Digits.{decimal, decimal_some, decimal_short, decimal_long, decimal_word}
+use Rattle.decimal.specs.Digits.{decimal}
+use Rattle.decimal.proofs.DigitsLaws.{decimal_some, decimal_short, decimal_long, decimal_word}
 use Rattle.decimal.proofs.width.Goals as goal
 
 longer : (k power n : ℕ) → power ≡ 10 ^ k → power ≤ n → k < length (decimal n)

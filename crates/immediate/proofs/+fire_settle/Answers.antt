@@ -1,7 +1,7 @@
 -- `immediate::fire` and `immediate::settle` meet their contracts, together: the number of queues left towards the sink falls from call to
 -- call, and what the queue that is settled holds from firing to firing.
 use Rattle.std.proofs.Common.{arith}
-use Rattle.immediate.specs.Lent.{fire_ready, fire_size, fire_settles, fire_ends, fire_ends_sink, going_none, going_done, going_fire, going_more, going_less, settle_size, going_size}
+use Rattle.immediate.proofs.LentLaws.{fire_ready, fire_size, fire_settles, fire_ends, fire_ends_sink, going_none, going_done, going_fire, going_more, going_less, settle_size, going_size}
 use Rattle.immediate.proofs.+fire_settle.Goals as goal
 
 pub fire-effect-requires : goal.fire-effect-requires

@@ -1,6 +1,6 @@
 -- `immediate::driven`: the goals that the check leaves, with the invariant of `Invariants.antt`.
 use Rattle.std.proofs.Common.{◌∙◌}
-use Rattle.immediate.specs.Lent.{driving_none, driving_fire, driving_more, driving_done}
+use Rattle.immediate.proofs.LentLaws.{driving_none, driving_fire, driving_more, driving_done}
 use Rattle.immediate.proofs.driven.Goals as goal
 
 pub started-flow-requires : goal.started-flow-requires

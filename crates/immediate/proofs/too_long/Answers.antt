@@ -1,6 +1,6 @@
 -- `immediate::too_long`: the goals that the check leaves, with the invariant of `Invariants.antt`.
 use Rattle.std.proofs.Common.{◌<◌, arith}
-use Rattle.immediate.specs.Long.{passing_none, passing_more, passing_over, passing_past}
+use Rattle.immediate.proofs.LongLaws.{passing_none, passing_more, passing_over, passing_past}
 use Rattle.immediate.proofs.too_long.Goals as goal
 use Rattle.immediate.proofs.too_long.Goals.{Else-i-n}
 

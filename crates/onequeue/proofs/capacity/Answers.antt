@@ -1,6 +1,7 @@
 -- `onequeue::capacity` answers the capacity in force: the definition's two cases are the code's.
 use Rattle.std.proofs.Common.{sym}
-use Rattle.onequeue.specs.Capacity.{capacity, capacity_written}
+use Rattle.onequeue.specs.Capacity.{capacity}
+use Rattle.onequeue.proofs.CapacityLaws.{capacity_written}
 use Rattle.onequeue.proofs.capacity.Goals as goal
 
 pub returns-then-written-eq0 : goal.returns-then-written-eq0

@@ -4,7 +4,8 @@ use Rattle.std.proofs.Common.{◌≡◌, sym, ℕ, ◌+◌, ◌-◌, ◌/◌, �
 use Rattle.std.proofs.Math.Nat.{mod-le, sub-zero}
 use Rattle.arith.specs.Gcd.{gcd_pos_left}
 use Rattle.onequeue.specs.Known.{Known}
-use Rattle.onequeue.specs.Least.{least, minimum_rest}
+use Rattle.onequeue.specs.Least.{least}
+use Rattle.onequeue.proofs.LeastLaws.{minimum_rest}
 use Rattle.onequeue.specs.declared.Row.{Row}
 use Rattle.onequeue.proofs.least.Goals as goal
 

@@ -3,7 +3,8 @@ use Rattle.std.proofs.Common.{◌≡◌, ℕ, ◌*◌, ◌/◌, ◌≤◌, mul-l
 use Rattle.arith.specs.Gcd.{gcd, gcd_pos_left}
 use Rattle.arith.specs.Division.{Divisor}
 use Rattle.onequeue.specs.declared.Row.{Row}
-use Rattle.rates.specs.Rates.{Step, rate_by_parts, rate_after}
+use Rattle.rates.specs.Rates.{Step, rate_after}
+use Rattle.rates.proofs.RatesLaws.{rate_by_parts}
 use Rattle.rates.proofs.rate_after.Goals as goal
 
 -- the queue's gcd is not 0, nor is that of x and the share, h; the share has 16 bits

@@ -1,6 +1,6 @@
 -- `sizing::analyse` meets its contract: 2, 4 and 5 refuse, or what 6 and 7 leave of the chain is its answer.
 use Rattle.std.proofs.Common.{◌∙◌}
-use Rattle.chain.specs.Sound.{sound_known}
+use Rattle.chain.proofs.SoundLaws.{sound_known}
 use Rattle.sizing.proofs.Answers.{analyse_refused, analyse_sized}
 use Rattle.sizing.proofs.analyse.Goals as goal
 

@@ -1,6 +1,7 @@
 -- `ticks::tick` meets its contract: the chain may not run, or the state is damaged, or clock or count is at its end, or the tick is made.
 use Rattle.std.proofs.Common.{◌∙◌}
-use Rattle.state.specs.Checks.{state_lent, planned_run}
+use Rattle.state.specs.Checks.{planned_run}
+use Rattle.state.proofs.ChecksLaws.{state_lent}
 use Rattle.ticks.proofs.Answers.{few, tick_chain_refuses, tick_state_refuses, tick_late, tick_lends, tick_answers}
 use Rattle.ticks.proofs.tick.Goals as goal
 

@@ -1,5 +1,5 @@
 -- `words::row` meets its contract: the words that `word` reads, each behind the one before, are the row.
-use Rattle.words.specs.Rows.{row_made}
+use Rattle.words.proofs.RowsLaws.{row_made}
 use Rattle.words.proofs.row.Goals as goal
 
 pub returns : goal.returns

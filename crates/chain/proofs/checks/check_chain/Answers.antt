@@ -1,8 +1,10 @@
 -- `chain::checks::check_chain` meets its contract: a silent check 2 leaves at most 16 queues, and where all rows are fine they have no faults.
 use Rattle.std.proofs.Common.{◌∙◌, ap, ◌+◌, ◌*◌}
 use Rattle.chain.specs.Refusals.{first, or_left, or_right}
-use Rattle.chain.specs.Checks.{chain_refusal, count_known}
-use Rattle.chain.specs.Faults.{settled, settled_is}
+use Rattle.chain.specs.Checks.{chain_refusal}
+use Rattle.chain.proofs.ChecksLaws.{count_known}
+use Rattle.chain.specs.Faults.{settled}
+use Rattle.chain.proofs.FaultsLaws.{settled_is}
 use Rattle.chain.proofs.Gather.{none_refused}
 use Rattle.chain.proofs.checks.check_chain.Goals as goal
 

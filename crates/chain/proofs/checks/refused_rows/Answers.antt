@@ -1,6 +1,7 @@
 -- `chain::checks::refused_rows` meets its contract: the faults settle 4 and 5.
 use Rattle.std.proofs.Common.{◌∙◌, ap, ◌+◌, ◌*◌, arith}
-use Rattle.chain.specs.Faults.{settled, settled_is}
+use Rattle.chain.specs.Faults.{settled}
+use Rattle.chain.proofs.FaultsLaws.{settled_is}
 use Rattle.chain.proofs.checks.refused_rows.Goals as goal
 
 pub overflow_mul-chain : goal.overflow_mul-chain

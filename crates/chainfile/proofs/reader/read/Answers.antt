@@ -1,5 +1,5 @@
 -- `chainfile::reader::read` meets its contract: its three ways out, as `Reading` has them.
-use Rattle.chainfile.specs.Accepted.{placed}
+use Rattle.chainfile.proofs.AcceptedLaws.{placed}
 use Rattle.chainfile.proofs.Reading.{short_refused, header_refused, rows_answer}
 use Rattle.chainfile.proofs.reader.read.Goals as goal
 

@@ -1,7 +1,7 @@
 -- `chainfile::writer::put_chain` meets its contract: header, queue table and node table, one writer after the other.
 use Rattle.std.proofs.Common.{arith}
 use Rattle.words.specs.Put.{puts_length}
-use Rattle.words.specs.Words.{bytes_length}
+use Rattle.words.proofs.WordsLaws.{bytes_length}
 use Rattle.chainfile.specs.Packed.{header, rows, rows_length}
 use Rattle.chainfile.proofs.Writing.{file_put}
 use Rattle.chainfile.proofs.writer.put_chain.Goals as goal

@@ -1,7 +1,7 @@
 -- `chainfile::writer::put_rows` meets its contract: before row i is written, the first i rows are, and there is room for one more.
 use Rattle.std.proofs.Common.{arith}
 use Rattle.words.specs.Put.{puts_length}
-use Rattle.words.specs.Words.{bytes_length}
+use Rattle.words.proofs.WordsLaws.{bytes_length}
 use Rattle.chainfile.specs.Packed.{rows, rows_length}
 use Rattle.chainfile.proofs.Writing.{table_start, table_put}
 use Rattle.chainfile.proofs.writer.put_rows.Goals as goal

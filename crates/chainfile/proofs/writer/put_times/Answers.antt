@@ -1,7 +1,7 @@
 -- `chainfile::writer::put_times` meets its contract: before word i is written, the first i words are, and there is room for one more.
 use Rattle.std.proofs.Common.{arith}
 use Rattle.words.specs.Put.{puts_length}
-use Rattle.words.specs.Words.{bytes_length}
+use Rattle.words.proofs.WordsLaws.{bytes_length}
 use Rattle.chainfile.specs.Packed.{nodes, nodes_length}
 use Rattle.chainfile.proofs.Writing.{table_start, table_put}
 use Rattle.chainfile.proofs.writer.put_times.Goals as goal

@@ -1,7 +1,7 @@
 -- `chainfile::writer::write` meets its contract: its three ways out, as `Writing` has them.
 use Rattle.std.proofs.Common.{sym, ◌∙◌, arith}
 use Rattle.chain.specs.Refusals.{or_left, or_right}
-use Rattle.chain.specs.Sound.{sound_known}
+use Rattle.chain.proofs.SoundLaws.{sound_known}
 use Rattle.chainfile.specs.Packed.{packed_length_law}
 use Rattle.chainfile.proofs.Writing.{output_refused, output_done, write_parts, room_short, room_enough}
 use Rattle.chainfile.proofs.writer.write.Goals as goal

@@ -1,7 +1,8 @@
 -- `state::Run::fire` meets its contract: the chain is refused, or the state is damaged, or the node's own checks refuse, or it fires.
 use Rattle.std.proofs.Common.{◌∙◌}
-use Rattle.state.specs.Checks.{state_lent, planned_sized}
-use Rattle.state.specs.Fire.{node_lent}
+use Rattle.state.specs.Checks.{planned_sized}
+use Rattle.state.proofs.ChecksLaws.{state_lent}
+use Rattle.state.proofs.FireLaws.{node_lent}
 use Rattle.state.proofs.Answers.{chain_refuses, state_refuses, node_refuses, accepts, fires}
 use Rattle.state.proofs.Run.fire.Goals as goal
 

@@ -1,0 +1,2 @@
+pub mod DeadlineLaws
+pub mod FiguresLaws

@@ -1,0 +1,5 @@
+pub mod CountsLaws
+pub mod EventsLaws
+pub mod FiguresLaws
+pub mod NamingLaws
+pub mod PeakLaws

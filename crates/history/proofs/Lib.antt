@@ -1,0 +1,3 @@
+pub mod FiguresLaws
+pub mod Laws
+pub mod QueuesLaws

@@ -1,0 +1,17 @@
+pub mod AnswersLaws
+pub mod BestLaws
+pub mod ExactlyLaws
+pub mod FiguresLaws
+pub mod FilledLaws
+pub mod FreshLaws
+pub mod KeptLaws
+pub mod LackingLaws
+pub mod OnceLaws
+pub mod OutcomesLaws
+pub mod QuietLaws
+pub mod RefusalsLaws
+pub mod RunsLaws
+pub mod SourceLaws
+pub mod SpillLaws
+pub mod StepsLaws
+pub mod TotalsLaws

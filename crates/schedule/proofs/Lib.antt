@@ -1,0 +1,4 @@
+pub mod CountsLaws
+pub mod FiguresLaws
+pub mod ReachedLaws
+pub mod ScheduleLaws

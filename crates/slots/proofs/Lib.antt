@@ -1,0 +1,2 @@
+pub mod ChainsLaws
+pub mod RunsLaws

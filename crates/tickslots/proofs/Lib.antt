@@ -1,0 +1,4 @@
+pub mod AlikeLaws
+pub mod AnswersLaws
+pub mod KeptLaws
+pub mod SlotsLaws

@@ -1,0 +1,4 @@
+pub mod EntriesLaws
+pub mod FiguresLaws
+pub mod RisingLaws
+pub mod TracedLaws
