@@ -48,7 +48,8 @@ module _ (f : List ℕ) where
     -- the analysis'
     pub prints_as_analysed : let a = analyse_answer (read_answer f).chain in a.number ≢ 0 → IsRefusal a.number a.place (printed f)
     unfolding analyse_answer sized
-    prints_as_analysed = subst Is (sym chain_is) (λ n. rw (printed_by (sym (report_roomy f longest_report (le_refl _)) ∙ report_as_analysed f longest_report quiet n)) (refusing f (analyse_refusal (chain_of f)) n))
+    prints_as_analysed = subst Is (sym chain_is) (λ n.
+        rw (printed_by (sym (report_roomy f longest_report (le_refl _)) ∙ report_as_analysed f longest_report quiet n)) (refusing f (analyse_refusal (chain_of f)) n))
       where
         Is : Chain → Type 0
         Is c = (analyse_answer c).number ≢ 0 → IsRefusal (analyse_answer c).number (analyse_answer c).place (printed f)
