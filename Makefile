@@ -21,7 +21,7 @@ help:
 	@echo '                       which a failure prints, repeat it'
 	@echo 'make lib               prove the library and write target/staticlib/libardenquill.a'
 	@echo 'make fmt               format every .rt and .antt file'
-	@echo 'make clean             remove target/'
+	@echo 'make clean             remove all that was made: target/, and what rt keeps of each crate'
 
 test:
 	@sh tools/gate
@@ -42,7 +42,7 @@ lib:
 	@echo 'target/staticlib/libardenquill.a is proved and up to date'
 
 fmt:
-	@rt fmt
+	@for crate in crates/*/; do (cd "$$crate" && rt fmt) || exit; done
 
 clean:
-	@rm -rf target
+	@rm -rf target crates/*/out
