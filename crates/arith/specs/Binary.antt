@@ -10,7 +10,8 @@
 --   turn_less             whose sum is less
 --   turn_last             so where x and y are equal, x shifted by those twos is gcd a b
 use Rattle.std.specs.Prelude.{◌≡◌, refl, ◌⊎◌, ℕ, zero, suc, ◌+◌, ◌-◌, ◌*◌, ◌/◌, ◌%◌, ◌^◌, ◌≤◌, ◌<◌, min}
-use Rattle.std.proofs.Common.{sym, ap, ap₂, ◌∙◌, subst, inl, inr, ⊎_elim, zero-le, suc-le-suc, one-mul, mul_comm, mul_assoc, div-one, lt_of_not-le, lt_of_le_of_lt, mod-eq_of_lt, arith, pow-add, pow_pos, pow_mono}
+use Rattle.std.proofs.Common.{sym, ap, ap₂, ◌∙◌, subst, inl, inr, ⊎_elim, zero-le, suc-le-suc, one-mul, mul_comm, mul_assoc, div-one, lt_of_not-le, lt_of_le_of_lt, mod-eq_of_lt}
+use Rattle.std.proofs.Common.{arith, pow-add, pow_pos, pow_mono}
 use Rattle.std.specs.Int.{◌∣◌}
 use Rattle.std.proofs.Math.Nat.{pow-succ', div-div-eq-div-mul, dvd_refl, dvd-add, dvd-sub}
 use Rattle.std.specs.Int.Count.{count_trailing_zeros, under}

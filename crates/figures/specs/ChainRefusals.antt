@@ -282,4 +282,5 @@ just_accepted =
 
 -- all of these
 abbrev pub chain_refusals : List Row
-chain_refusals = flat_map by_file bad_files ++ (flat_map by_record bad_chains ++ (flat_map by_analysis bad_rates ++ (flat_map by_run bad_capacities ++ (flat_map accepted good_chains ++ just_accepted))))
+chain_refusals = flat_map by_file bad_files ++ (flat_map by_record bad_chains ++ (flat_map by_analysis bad_rates
+    ++ (flat_map by_run bad_capacities ++ (flat_map accepted good_chains ++ just_accepted))))

@@ -52,7 +52,8 @@ abbrev pub nine_check : Chain → Run → Refusal
 nine_check c s = or_else (clock_check s) (spent_check c s)
 
 -- a number that the checks before do not have is said exactly when they are silent and those behind them say it
-pub said_behind : (N L : ℕ) → N ≢ 0 → (Ns : List ℕ) (ps : List Refusal) → Numbered Ns ps → Others N Ns → (rs : List Refusal) → (first (ps ++ rs) ≡ refused N L) ↔ (Silents ps × (first rs ≡ refused N L))
+pub said_behind : (N L : ℕ) → N ≢ 0 → (Ns : List ℕ) (ps : List Refusal) → Numbered Ns ps → Others N Ns
+    → (rs : List Refusal) → (first (ps ++ rs) ≡ refused N L) ↔ (Silents ps × (first rs ≡ refused N L))
 unfolding first
 said_behind N L some Ns ps o a rs = rw (first_append ps rs) (Iff.trans (or_says N L some (first ps) (first rs)) (
   ⊎_elim (λ e. absurd (some (sym (number_of ((said_earlier N L some [] Ns ps o a).0 e))))) (λ h. ((first_silent ps).0 h.0, h.1)),

@@ -61,7 +61,8 @@ refused_outputs {r} {s} {t} {u} {o} {p} {v} {a} {b} e n x y =
     (x.answer ∙ simp (ne_eqb _ _ n) (sym (z.answer ∙ simp (ne_eqb _ _ n))), x.bytes ∙ simp (ne_eqb _ _ n) (sym (z.bytes ∙ simp (ne_eqb _ _ n))))
 
 -- what 6, 7 and 10 say of files that say the same chain
-sizes_alike : (f g : List ℕ) (room : ℕ) → chain_of f ≡ chain_of g → or_else (size_refusal f) (room_check (length (report_text f)) room) ≡ or_else (size_refusal g) (room_check (length (report_text g)) room)
+sizes_alike : (f g : List ℕ) (room : ℕ) → chain_of f ≡ chain_of g
+    → or_else (size_refusal f) (room_check (length (report_text f)) room) ≡ or_else (size_refusal g) (room_check (length (report_text g)) room)
 unfolding size_refusal
 sizes_alike f g room e = ap (λ (c : Chain). or_else (first (size_checks c)) (room_check (length (text_of (analysis_of c))) room)) e
 

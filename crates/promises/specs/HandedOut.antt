@@ -17,7 +17,8 @@ use Rattle.ardenquill.specs.Analyses.{analyse_accepts}
 use Rattle.ardenquill.specs.Runs.{done_at, answered, fresh_answer, fresh_state, fire_refusal, fire_answer, fire_accepted, fire_17, Firing, firing_is, FirstBroken}
 use Rattle.ardenquill.specs.Immediate.{schedule, immediate_answer}
 use Rattle.ardenquill.specs.Ticks as ticks
-use Rattle.ardenquill.specs.Ticks.{outcome_of, tick_refusal, tick_answer, deadline_run_answer, tick_17, Running, fired_running, fresh_running, clean_or, ran_to, run_may, run_start, run_next, run_stops}
+use Rattle.ardenquill.specs.Ticks.{outcome_of, tick_refusal, tick_answer, deadline_run_answer, tick_17, Running, fired_running, fresh_running, clean_or}
+use Rattle.ardenquill.specs.Ticks.{ran_to, run_may, run_start, run_next, run_stops}
 use Rattle.ardenquill.specs.Records.{Chain, Run, TickAnswer}
 use Rattle.promises.specs.Outcomes.{cleanly_is}
 use Rattle.promises.specs.Replay.{Accepts, AllSlots, Passes, Runs, accepts_is}

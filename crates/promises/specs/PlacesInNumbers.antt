@@ -176,7 +176,8 @@ Reasons c s j = ((start (row_of c j) + p_of c j * count_at s j ≢ held_at s j +
 judged : (c : Chain) (s : Run) (j : ℕ) → Passes c s j ⊎ Reasons c s j
 judged c s j = ⊎_elim inl
     (⊎_elim (⊎_elim (λ n. inr (inl (inl n))) (λ n. inr (inl (inr (omega arith))))) (λ n. inr (inr (omega arith))))
-    (judge_three (ℕ_discrete (start (row_of c j) + p_of c j * count_at s j) (held_at s j + c_of c j * count_at s (suc j))) (dec_le (held_at s j) (line c j).capacity) (dec_lt (done_at s j) (work_of c j))
+    (judge_three (ℕ_discrete (start (row_of c j) + p_of c j * count_at s j) (held_at s j + c_of c j * count_at s (suc j)))
+    (dec_le (held_at s j) (line c j).capacity) (dec_lt (done_at s j) (work_of c j))
     (λ b k w. record { balance = b; capacity = k; work = w }))
 
 -- and never both

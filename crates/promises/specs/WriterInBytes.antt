@@ -12,7 +12,8 @@ use Rattle.std.proofs.Math.Path.{sym}
 use Rattle.std.proofs.Common.{ap, ◌∙◌, mod-lt, arith, length-append, length-drop, get_or-append-add, get_or-drop, take_at}
 use Rattle.std.proofs.Math.ListN.{get_or-append}
 use Rattle.ardenquill.specs.Chains.{Silent, row_of, work_of, none, slot_used, trimmed, Sound}
-use Rattle.ardenquill.specs.Files.{bytes_of, bytes_length, word_at_law, read_answer, packed_length, words, packed, packed_length_law, write_refusal, write_accepts, write_fine, Output, output_fine, read_of_write}
+use Rattle.ardenquill.specs.Files.{bytes_of, bytes_length, word_at_law, read_answer, packed_length, words, packed, packed_length_law}
+use Rattle.ardenquill.specs.Files.{write_refusal, write_accepts, write_fine, Output, output_fine, read_of_write}
 use Rattle.ardenquill.specs.Records.{Queue, Chain, LengthAnswer}
 use Rattle.promises.specs.Laws.{output_silent}
 use Rattle.promises.specs.RecordInNumbers.{GoodRecord, good_is}

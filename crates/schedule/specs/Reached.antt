@@ -39,7 +39,8 @@ pub record Reached (c : Chain) (s : Run) : Type 0 where
   pub wide : length s.counts ≡ 17
   pub deep : length s.held ≡ 16
   pub balance : (j : ℕ) → j < c.n → Balance c s j
-  pub owed : (j : ℕ) → j < c.n → 0 < count_at s (suc j) → (row_of c j).consume * count_at s (suc j) + (row_of c j).threshold ≤ start (row_of c j) + (row_of c j).produce * count_at s j + (row_of c j).consume
+  pub owed : (j : ℕ) → j < c.n → 0 < count_at s (suc j)
+      → (row_of c j).consume * count_at s (suc j) + (row_of c j).threshold ≤ start (row_of c j) + (row_of c j).produce * count_at s j + (row_of c j).consume
   pub counts_past : (j : ℕ) → c.n < j → count_at s j ≡ 0
   pub held_past : (j : ℕ) → c.n ≤ j → held_at s j ≡ 0
 

@@ -78,7 +78,11 @@ module _ (c : Chain) (s : Sound c) where
   pub tokens_balance : (i : ℕ) → i < c.n → (row_of c i).consume * x_of c (suc i) * y_of c i ≡ (row_of c i).produce * x_of c i * y_of c (suc i)
   unfolding x_of
   tokens_balance i l =
-      omega (arith, ap (λ (n : ℕ). n * y_of c i) (next_balance (row_of c i).produce (row_of c i).consume (x_of c i) (consumes i l)), ap (λ (n : ℕ). (row_of c i).produce * x_of c i * n) (y_stretch i l))
+      omega (
+        arith,
+        ap (λ (n : ℕ). n * y_of c i) (next_balance (row_of c i).produce (row_of c i).consume (x_of c i) (consumes i l)),
+        ap (λ (n : ℕ). (row_of c i).produce * x_of c i * n) (y_stretch i l),
+      )
 
   pub cycle_least : (i k : ℕ) → i < c.n → 0 < k → (row_of c i).consume ∣ (row_of c i).produce * x_of c i * k → stretch_of c i ≤ k
   cycle_least i k l = stretch_least _ _ _ (consumes i l) k

@@ -48,7 +48,8 @@ dued_dated {l} {f} {j} a h =
 -- a node of which the test of the code does not hold is not wanted
 unwanted : {l f : List ℕ} {every : Bool} {j : ℕ} {c : Chain} {s : Run} → (every || eqb j 0) || leb (threshold_in f j) (held_in f j) ≡ false → Stands l f c s → j < c.n → Wanted every c s j → ⊥
 unwanted {l} {f} {every} {j} {c} {s} t x m =
-    let none : ((every ≡ false) × (j ≢ 0)) × (held_in f j < threshold_in f j) = (or_false (or_false Iff.rfl (λ e. eqb-false j 0 e, λ n. ne_eqb j 0 n)) (upto_false (threshold_in f j) (held_in f j))).0 t in
+    let none : ((every ≡ false) × (j ≢ 0)) × (held_in f j < threshold_in f j) =
+    (or_false (or_false Iff.rfl (λ e. eqb-false j 0 e, λ n. ne_eqb j 0 n)) (upto_false (threshold_in f j) (held_in f j))).0 t in
     ⊎_elim
     (⊎_elim (λ e. absurd (let z : ◌≡◌ {A = ℕ} 1 0 = ap (λ (b : Bool). cond b 1 0) (sym e ∙ none.0.0) in omega arith)) (λ e. none.0.1 e))
     (λ (o : Over c s (suc j)). absurd (omega (arith, none.1, o, x.shown.shows.waits j m, x.shown.shows.holds j (omega (arith, x.shown.shows.few)))))
