@@ -6,10 +6,10 @@
 --   ceil_zero                   no multiple is needed for 0
 --   ceil_multiple, _between     one more in n is one more in ceil n m where m divides n, and no more elsewhere
 --   ceil_rises                  so where it is one more, n is the multiple
-use Rattle.std.specs.Prelude.{◌≡◌, ◌≢◌, ℕ, zero, suc, ◌+◌, ◌-◌, ◌*◌, ◌/◌, ◌%◌, ◌≤◌, ◌<◌}
-use Rattle.std.proofs.Common.{sym, ap, subst, le_refl, le_trans, zero-lt-suc, div-mul-le_self, le-div_iff_mul-le, div-lt_iff_lt-mul, mul-le-mul_left, arith}
+use Rattle.std.specs.Prelude.{◌≡◌, ◌≢◌, ℕ, zero, suc, ◌+◌, ◌-◌, ◌*◌, ◌/◌, ◌≤◌, ◌<◌}
+use Rattle.std.proofs.Common.{sym, ap, subst, zero-lt-suc, div-lt_iff_lt-mul, arith}
 use Rattle.std.specs.Int.{◌∣◌}
-use Rattle.std.proofs.Math.Nat.{mul-div_cancel', dvd-mul_right, div-zero, div-add-mod, mul-div-le, lt-mul-div-succ, div-eq_of_lt-le, add-mul-div_left, add-mul-mod_self_left, lt_of_mul-lt-mul_left}
+use Rattle.std.proofs.Math.Nat.{mul-div_cancel', dvd-mul_right, div-zero}
 use Rattle.arith.specs.Division.{floor_below, floor_above, floor_unique, floor_mono, ceil}
 
 -- the minus is exact at each m that is not 0

@@ -7,10 +7,9 @@
 --   rest_of_sum                 k times c more leaves the remainder on division by c as it was
 --   same_rest_gap               of two numbers with one remainder on division by c, the lower is lower by c or more
 -- In the logic n / 0 is 0 and n % 0 is n; a law here that asks for 0 < m is false without it.
-use Rattle.std.specs.Prelude.{◌≡◌, ◌≢◌, ℕ, zero, suc, ◌+◌, ◌-◌, ◌*◌, ◌/◌, ◌%◌, ◌≤◌, ◌<◌}
-use Rattle.std.proofs.Common.{sym, ap, subst, le_refl, le_trans, zero-lt-suc, div-mul-le_self, le-div_iff_mul-le, div-lt_iff_lt-mul, mul-le-mul_left, arith}
-use Rattle.std.specs.Int.{◌∣◌}
-use Rattle.std.proofs.Math.Nat.{mul-div_cancel', dvd-mul_right, div-zero, div-add-mod, mul-div-le, lt-mul-div-succ, div-eq_of_lt-le, add-mul-div_left, add-mul-mod_self_left, lt_of_mul-lt-mul_left}
+use Rattle.std.specs.Prelude.{◌≡◌, ℕ, zero, suc, ◌+◌, ◌-◌, ◌*◌, ◌/◌, ◌%◌, ◌≤◌, ◌<◌}
+use Rattle.std.proofs.Common.{le_refl, le_trans, zero-lt-suc, div-mul-le_self, le-div_iff_mul-le, mul-le-mul_left, arith}
+use Rattle.std.proofs.Math.Nat.{div-zero, div-add-mod, mul-div-le, lt-mul-div-succ, div-eq_of_lt-le, add-mul-div_left, add-mul-mod_self_left, lt_of_mul-lt-mul_left}
 
 -- a number that code may divide by
 pub record Divisor (d : ℕ) : Type 0 where

@@ -8,20 +8,19 @@
 --   record_2, record_4, record_5
 --                              when a record is refused with each number
 use Rattle.std.proofs.Math.Logic.Iff
-use Rattle.std.specs.Prelude.{◌≡◌, refl, true, ◌↔◌, List, [], ◌∷◌, ◌++◌, map, ℕ, ◌+◌, ◌*◌, ◌≤◌, ◌<◌, ltb, length, get_or, take}
+use Rattle.std.specs.Prelude.{◌≡◌, refl, true, ◌↔◌, List, [], ◌∷◌, map, ℕ, ◌+◌, ◌*◌, ◌≤◌, ◌<◌, ltb, get_or, take}
 use Rattle.std.proofs.Common.{sym, ◌∙◌, add-zero, arith, lt-ltb, ltb-true}
 use Rattle.std.proofs.Math.Logic.{true-and}
 use Rattle.std.proofs.lemmas.List.{length-map}
 use Rattle.std.proofs.Math.ListN.{get_or-map}
-use Rattle.words.specs.Flat.{flat}
 use Rattle.words.specs.Table.{tab}
 use Rattle.words.specs.Rows.{row}
 use Rattle.words.specs.declared.Queue.{Queue}
 use Rattle.chain.specs.Tests.{outside, Out, In, outside_true, outside_false, below_false}
-use Rattle.chain.specs.Refusals.{silent_as, Silents, Numbered, refused, fine, test, first, Silent, First}
+use Rattle.chain.specs.Refusals.{silent_as, Silents, Numbered, refused, fine, Silent, First}
 use Rattle.chain.proofs.RefusalsLaws.{exact_at}
 use Rattle.chain.specs.Refusals.{first_is, Lowest, lowest_is, Only, only_test, only_map, only_tab, test_exact, test_silent}
-use Rattle.chain.specs.Record.{row_of, work_of}
+use Rattle.chain.specs.Record.{row_of}
 use Rattle.chain.specs.declared.Refusal.{Refusal}
 use Rattle.chain.specs.declared.Chain.{Chain}
 use Rattle.chain.specs.Checks.{Field, field, row_fields, fields, count_check, out_of_range, range_check, overdrawn, order_check, record_range, chain_checks, chain_refusal, field_exact, field_silent, field_at, FirstOut, FirstOver, chain_numbers}

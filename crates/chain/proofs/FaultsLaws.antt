@@ -2,19 +2,17 @@
 --   fine_row q e, fine_row_law      the one test of a queue row and its node row, which holds exactly where both are sound
 --   settled_is                      which is what the two checks say
 use Rattle.std.proofs.Math.Logic.Iff
-use Rattle.std.specs.Prelude.{◌≡◌, Bool, true, ◌&&◌, ◌↔◌, [], ◌∷◌, ℕ, ◌+◌, ◌*◌, ◌≤◌, ◌<◌, leb, eqb}
+use Rattle.std.specs.Prelude.{◌≡◌, true, ◌↔◌, [], ◌∷◌, ℕ, ◌+◌, ◌*◌}
 use Rattle.std.proofs.Common.{sym, ap₂, arith}
 use Rattle.words.specs.Table.{tab}
 use Rattle.words.specs.declared.Queue.{Queue}
 use Rattle.chain.specs.Tests.{In, upto_true, equal_true, and_true}
-use Rattle.chain.specs.Refusals.{fine, first, or_else, first_last}
+use Rattle.chain.specs.Refusals.{first, or_else, first_last}
 use Rattle.chain.specs.Record.{row_of, work_of}
-use Rattle.chain.specs.Checks.{ticks, out_of_range, overdrawn, range_check, order_check}
-use Rattle.chain.specs.Sound.{row_range, node_range, SoundRow}
+use Rattle.chain.specs.Checks.{overdrawn, range_check, order_check}
+use Rattle.chain.specs.Sound.{SoundRow}
 use Rattle.chain.proofs.SoundLaws.{range_parts}
-use Rattle.chain.specs.declared.Refusal.{Refusal}
 use Rattle.chain.specs.declared.Chain.{Chain}
-use Rattle.chain.specs.declared.checks.Faults.{Faults}
 use Rattle.chain.specs.Faults.{fine_row, faults_of, settled}
 
 pub fine_row_law : (q : Queue) (e : ℕ) → (fine_row q e ≡ true) ↔ (SoundRow q × In 1 1000000 e)

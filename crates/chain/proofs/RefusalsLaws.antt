@@ -2,15 +2,12 @@
 --   exact_once               a list says the number of its check k, which stands once, at L exactly when the checks before it are silent and it says so
 --   exact_at                 the same of each check, where no number stands twice
 use Rattle.std.proofs.Math.Logic.Iff
-use Rattle.std.specs.Prelude.{◌≡◌, Bool, true, false, cond, not, ◌&&◌, ◌↔◌, ◌≢◌, ◌⊎◌, T, eqb, length, get_or, take, drop}
-use Rattle.std.proofs.Math.Path.{refl, sym, ap}
-use Rattle.std.proofs.Common.{ap₂, ◌∙◌, true≢false, inl, inr, ⊎_elim, not-suc-le-zero, arith, T_not, eq-eqb, ne_eqb}
-use Rattle.std.proofs.Math.Logic.{true-and, by_cases}
-use mathlib.Core.List.{List, [], ◌∷◌, ◌++◌, map, map-append}
-use Prim.Native.Nat.{ℕ, zero, suc, ◌+◌, ◌<◌}
-use Rattle.std.proofs.Math.Decide.{ℕ_discrete}
-use Rattle.words.specs.Flat.{flat}
-use Rattle.words.specs.Table.{tab, tab_last, length_tab, tab_at}
+use Rattle.std.specs.Prelude.{◌≡◌, true, false, ◌↔◌, ◌≢◌, T, length, get_or, take}
+use Rattle.std.proofs.Math.Path.{refl, sym}
+use Rattle.std.proofs.Common.{◌∙◌, inr, ⊎_elim, not-suc-le-zero, arith, ne_eqb}
+use Rattle.std.proofs.Math.Logic.{true-and}
+use mathlib.Core.List.{List, [], ◌∷◌}
+use Prim.Native.Nat.{ℕ, zero, suc, ◌<◌}
 use Rattle.chain.specs.declared.Refusal.{Refusal}
 use Rattle.chain.specs.Refusals.{refused, fine, first, Silents, number_of, says_some, or_says, says_last, Numbered, absent, distinct, elsewhere, stands_once, Others, both, others, others_at, numbered_length, said_earlier}
 

@@ -14,18 +14,14 @@
 --   FieldOut, FieldIn, field_at, FirstOut, FirstOver
 --                              01's conditions of 4 and 5, in words
 use Rattle.std.proofs.Math.Logic.Iff
-use Rattle.std.specs.Prelude.{◌≡◌, refl, true, ◌↔◌, List, [], ◌∷◌, ◌++◌, map, ℕ, ◌+◌, ◌*◌, ◌≤◌, ◌<◌, ltb, length, get_or, take}
-use Rattle.std.proofs.Common.{sym, ◌∙◌, add-zero, arith, lt-ltb, ltb-true}
-use Rattle.std.proofs.Math.Logic.{true-and}
-use Rattle.std.proofs.lemmas.List.{length-map}
-use Rattle.std.proofs.Math.ListN.{get_or-map}
+use Rattle.std.specs.Prelude.{◌≡◌, ◌↔◌, List, [], ◌∷◌, ◌++◌, map, ℕ, ◌+◌, ◌*◌, ◌≤◌, ◌<◌, ltb, length, get_or}
+use Rattle.std.proofs.Common.{arith}
 use Rattle.words.specs.Flat.{flat}
 use Rattle.words.specs.Table.{tab}
-use Rattle.words.specs.Rows.{row}
 use Rattle.words.specs.declared.Queue.{Queue}
-use Rattle.chain.specs.Tests.{outside, Out, In, outside_true, outside_false, below_false}
-use Rattle.chain.specs.Refusals.{silent_as, Silents, Numbered, refused, fine, test, first, Silent, First}
-use Rattle.chain.specs.Refusals.{first_is, Lowest, lowest_is, Only, only_test, only_map, only_tab, test_exact, test_silent}
+use Rattle.chain.specs.Tests.{outside, Out, In, outside_true, outside_false}
+use Rattle.chain.specs.Refusals.{refused, test, first, Silent}
+use Rattle.chain.specs.Refusals.{test_exact, test_silent}
 use Rattle.chain.specs.Record.{row_of, work_of}
 use Rattle.chain.specs.declared.Refusal.{Refusal}
 use Rattle.chain.specs.declared.Chain.{Chain}

@@ -6,16 +6,13 @@
 --   settled y f                     4 of the period and of the rows, then 5
 --   Few n, FineRows c k, TablesAt n q w, RowPlace at
 --                                   what the code of the pass asks: few rows, the first k of them fine, at places of a file
-use Rattle.std.proofs.Math.Logic.Iff
-use Rattle.std.specs.Prelude.{◌≡◌, Bool, true, ◌&&◌, ◌↔◌, [], ◌∷◌, ℕ, ◌+◌, ◌*◌, ◌≤◌, ◌<◌, leb, eqb}
-use Rattle.std.proofs.Common.{sym, ap₂, arith}
+use Rattle.std.specs.Prelude.{◌≡◌, Bool, true, ◌&&◌, ℕ, ◌+◌, ◌*◌, ◌≤◌, ◌<◌, leb, eqb}
 use Rattle.words.specs.Table.{tab}
 use Rattle.words.specs.declared.Queue.{Queue}
-use Rattle.chain.specs.Tests.{In, upto_true, equal_true, and_true}
-use Rattle.chain.specs.Refusals.{fine, first, or_else, first_last}
+use Rattle.chain.specs.Refusals.{fine, first, or_else}
 use Rattle.chain.specs.Record.{row_of, work_of}
-use Rattle.chain.specs.Checks.{ticks, out_of_range, overdrawn, range_check, order_check}
-use Rattle.chain.specs.Sound.{row_range, node_range, SoundRow}
+use Rattle.chain.specs.Checks.{ticks, out_of_range, overdrawn}
+use Rattle.chain.specs.Sound.{row_range, node_range}
 use Rattle.chain.specs.declared.Refusal.{Refusal}
 use Rattle.chain.specs.declared.Chain.{Chain}
 use Rattle.chain.specs.declared.checks.Faults.{Faults}

@@ -1,18 +1,12 @@
 -- What a chain that the checks 2, 4 and 5 do not refuse is.
 --   row_range q at, node_range e at  4 of one queue row and of one node row
 --   SoundRow q, Sound c             a row, and a chain, in range and in order
-use Rattle.std.proofs.Math.Logic.Iff
-use Rattle.std.specs.Prelude.{◌≡◌, ◌↔◌, List, [], ◌∷◌, map, ℕ, ◌+◌, ◌*◌, ◌≤◌, ◌<◌}
-use Rattle.std.proofs.Common.{ap, ap₂, ◌∙◌, arith}
-use Rattle.std.proofs.lemmas.List.{map-append}
-use Rattle.words.specs.Flat.{flat}
-use Rattle.words.specs.Table.{tab}
+use Rattle.std.specs.Prelude.{◌≡◌, map, ℕ, ◌≤◌, ◌<◌}
 use Rattle.words.specs.declared.Queue.{Queue}
 use Rattle.chain.specs.Tests.{In}
-use Rattle.chain.specs.Refusals.{first, or_else, Silent, Silents, silent_as, first_silent, first_append, first_flat, map_tab, or_silents, all_silent}
+use Rattle.chain.specs.Refusals.{first}
 use Rattle.chain.specs.Record.{row_of, work_of}
-use Rattle.chain.specs.Checks.{Field, field, ticks, row_fields, fields, out_of_range, overdrawn, count_check, range_check}
-use Rattle.chain.specs.Checks.{order_check, chain_checks, chain_refusal, field_silent}
+use Rattle.chain.specs.Checks.{ticks, row_fields, out_of_range}
 use Rattle.chain.specs.declared.Refusal.{Refusal}
 use Rattle.chain.specs.declared.Chain.{Chain}
 

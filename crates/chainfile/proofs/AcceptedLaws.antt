@@ -3,21 +3,18 @@
 --   read_accepts           the reader accepts exactly such a file
 --   read_fine, write_fine  a call that is silent answers number 0 with place 0
 use Rattle.std.proofs.Math.Logic.Iff
-use Rattle.std.specs.Prelude.{◌≡◌, refl, Bool, false, ◌↔◌, List, [], ◌∷◌, ℕ, ◌+◌, ◌*◌, ◌≤◌, length}
+use Rattle.std.specs.Prelude.{◌≡◌, refl, Bool, false, ◌↔◌, List, [], ◌∷◌, ℕ, ◌+◌, ◌*◌, length}
 use Rattle.std.proofs.Common.{arith}
-use Rattle.chain.specs.Tests.{In, below_false}
 use Rattle.chain.specs.Refusals.{fine, test, first, Silent, Silents, silent_as, first_fine, first_silent, test_silent}
-use Rattle.chain.specs.Checks.{count_check, record_range, record_order}
+use Rattle.chain.specs.Checks.{count_check}
 use Rattle.chain.proofs.ChecksLaws.{count_silent}
 use Rattle.chain.specs.Sound.{Sound}
 use Rattle.chain.proofs.SoundLaws.{sound_is}
 use Rattle.chain.specs.declared.Refusal.{Refusal}
-use Rattle.chain.specs.declared.Chain.{Chain}
-use Rattle.chainfile.specs.File.{count_of, queues_at, nodes_at, total_of, chain_of, length_check, bad_table, offset_tests}
+use Rattle.chainfile.specs.File.{count_of, queues_at, nodes_at, chain_of, length_check, bad_table, offset_tests}
 use Rattle.chainfile.specs.File.{offset_check, file_offsets, file_range, file_order, read_checks, header_refusal}
-use Rattle.chainfile.specs.File.{read_refusal, length_silent, GoodTable, Shared}
+use Rattle.chainfile.specs.File.{read_refusal, length_silent, GoodTable}
 use Rattle.chainfile.proofs.FileLaws.{good_table, overlap_false}
-use Rattle.chainfile.specs.Packed.{packed_length, room_check, write_checks, write_refusal}
 use Rattle.chainfile.specs.Accepted.{Placed, AcceptedFile}
 
 pub placed : {r : Refusal} (f : List ℕ) → r ≡ header_refusal f → Silent r → Placed f

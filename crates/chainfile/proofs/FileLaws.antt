@@ -5,22 +5,14 @@
 --   length_only, offset_only   each speaks with its own number only
 --   read_1 .. read_5           when a file is refused with each number
 use Rattle.std.proofs.Math.Logic.Iff
-use Rattle.std.specs.Prelude.{◌≡◌, refl, Bool, true, false, ◌||◌, ◌&&◌, not, ◌↔◌, ◌≢◌, ◌⊎◌, List, [], ◌∷◌, ℕ, ◌+◌, ◌*◌, ◌%◌, ◌≤◌, ◌<◌, max, ltb, eqb, length, get_or, take, drop}
+use Rattle.std.specs.Prelude.{◌≡◌, refl, Bool, true, false, ◌↔◌, ◌≢◌, List, [], ◌∷◌, ℕ, ◌+◌, ◌*◌, ◌%◌, ◌<◌, max, length, get_or, take}
 use Rattle.std.proofs.Common.{sym, ◌∙◌, true≢false, arith}
 use Rattle.std.proofs.Math.Logic.{true-and}
-use Rattle.words.specs.Rows.{none, row_at}
-use Rattle.words.specs.Table.{slots}
-use Rattle.words.specs.Words.{word_at}
 use Rattle.chain.specs.Refusals.{fine, Silents, Numbered, refused, test, first, Silent, Only, only_test, only_fine, only_or, test_exact, test_silent, or_says, says_last}
 use Rattle.chain.proofs.RefusalsLaws.{exact_at}
-use Rattle.chain.specs.Record.{answered}
-use Rattle.chain.specs.Tests.{outside, Out, In, outside_true, outside_false, or_true, or_false, and_true, sum_iff, below_true, below_false, differ_true, differ_false}
-use Rattle.chain.specs.Checks.{count_check, range_check, order_check, fields, FirstOut, FirstOver}
+use Rattle.chain.specs.Tests.{Out, or_true, or_false, and_true, sum_iff, below_true, below_false, differ_true, differ_false}
+use Rattle.chain.specs.Checks.{count_check, fields, FirstOut, FirstOver}
 use Rattle.chain.proofs.ChecksLaws.{count_exact, range_exact, order_exact, count_only, range_only, order_only}
-use Rattle.chain.specs.declared.Refusal.{Refusal}
-use Rattle.chain.specs.declared.Chain.{Chain}
-use Rattle.chain.specs.declared.ChainAnswer.{ChainAnswer}
-use Rattle.chainfile.specs.declared.reader.Header.{Header}
 use Rattle.chainfile.specs.File.{count_of, queues_at, nodes_at, chain_of, length_check, bad_table, overlap, offset_check, file_offsets, file_range, read_checks, read_refusal, BadLength, length_exact, length_only, BadTable, GoodTable, Shared, BadTables, read_numbers}
 
 pub bad_table_law : (len at end : ℕ) → (bad_table len at end ≡ true) ↔ BadTable len at end

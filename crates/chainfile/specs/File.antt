@@ -21,18 +21,15 @@
 --   length_silent              and 1 is silent exactly where it does not hold
 --   length_only, offset_only   each speaks with its own number only
 use Rattle.std.proofs.Math.Logic.Iff
-use Rattle.std.specs.Prelude.{◌≡◌, refl, Bool, true, false, ◌||◌, ◌&&◌, not, ◌↔◌, ◌≢◌, ◌⊎◌, List, [], ◌∷◌, ℕ, ◌+◌, ◌*◌, ◌%◌, ◌≤◌, ◌<◌, max, ltb, eqb, length, get_or, take, drop}
-use Rattle.std.proofs.Common.{sym, ◌∙◌, true≢false, arith}
-use Rattle.std.proofs.Math.Logic.{true-and}
+use Rattle.std.specs.Prelude.{◌≡◌, Bool, ◌||◌, ◌&&◌, not, ◌↔◌, ◌≢◌, ◌⊎◌, List, [], ◌∷◌, ℕ, ◌+◌, ◌*◌, ◌%◌, ◌≤◌, ◌<◌, ltb, eqb, length, take, drop}
+use Rattle.std.proofs.Common.{arith}
 use Rattle.words.specs.Rows.{none, row_at}
 use Rattle.words.specs.Table.{slots}
 use Rattle.words.specs.Words.{word_at}
-use Rattle.chain.specs.Refusals.{fine, Silents, Numbered, refused, test, first, Silent, Only, only_test, only_fine, only_or, test_exact, test_silent, or_says, says_last}
-use Rattle.chain.proofs.RefusalsLaws.{exact_at}
+use Rattle.chain.specs.Refusals.{refused, test, first, Silent, Only, only_test, test_exact, test_silent}
 use Rattle.chain.specs.Record.{answered}
-use Rattle.chain.specs.Tests.{outside, Out, In, outside_true, outside_false, or_true, or_false, and_true, sum_iff, below_true, below_false, differ_true, differ_false}
-use Rattle.chain.specs.Checks.{count_check, range_check, order_check, fields, FirstOut, FirstOver}
-use Rattle.chain.proofs.ChecksLaws.{count_exact, range_exact, order_exact, count_only, range_only, order_only}
+use Rattle.chain.specs.Tests.{outside, Out, In, outside_true, outside_false, or_true, or_false, differ_true, differ_false}
+use Rattle.chain.specs.Checks.{count_check, range_check, order_check}
 use Rattle.chain.specs.declared.Refusal.{Refusal}
 use Rattle.chain.specs.declared.Chain.{Chain}
 use Rattle.chain.specs.declared.ChainAnswer.{ChainAnswer}

@@ -3,7 +3,6 @@
 --   second_figure            its second: index (1×3+10)/4 + 1 = 4, due at 3×10
 use Rattle.std.specs.Prelude.{◌≡◌, refl}
 use Rattle.chain.specs.Factory.{factory_answer}
-use Rattle.chain.specs.declared.Chain.{Chain}
 use Rattle.dates.specs.Question.{deadline_answer}
 use Rattle.dates.specs.Figures.{feed}
 

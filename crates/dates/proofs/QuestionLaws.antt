@@ -6,25 +6,21 @@
 --                              on the way down passes the limit
 --   deadline_due, _refused     the deadline that it gives
 use Rattle.std.proofs.Math.Logic.Iff
-use Rattle.std.specs.Prelude.{◌≡◌, refl, ◌↔◌, ◌≢◌, ◌⊎◌, false, cond, ◌||◌, List, [], ◌∷◌, ◌++◌, ℕ, zero, suc, ◌+◌, ◌-◌, ◌*◌, ◌^◌, ◌≤◌, ◌<◌, ltb, eqb, get_or, take}
-use Rattle.std.proofs.Common.{sym, mul-le-mul, eq-eqb, ne_eqb}
+use Rattle.std.specs.Prelude.{◌≡◌, ◌↔◌, ◌≢◌, ◌⊎◌, false, ◌||◌, [], ◌∷◌, ◌++◌, ℕ, ◌≤◌, ◌<◌, ltb, eqb, get_or, take}
+use Rattle.std.proofs.Common.{sym, eq-eqb, ne_eqb}
 use native.Mathlib.Omega.{arith}
 use Rattle.std.proofs.lemmas.Bool.{eqb-false}
 use Rattle.chain.specs.Tests.{below_true, below_false, equal_true, or_true, or_false}
-use Rattle.chain.specs.Refusals.{refused, fine, test, first, or_else, first_append, Silent, Silents, or_silents, silent_as, first_silent}
+use Rattle.chain.specs.Refusals.{refused, fine, first, or_else, first_append, Silent, Silents, or_silents, silent_as, first_silent}
 use Rattle.chain.specs.Refusals.{Numbered, Only, only_test, test_exact, test_silent, said_earlier, numbered_append}
 use Rattle.chain.proofs.RefusalsLaws.{exact_at}
-use Rattle.chain.specs.Record.{row_of}
-use Rattle.chain.specs.Sound.{Sound}
-use Rattle.chain.specs.declared.Refusal.{Refusal}
 use Rattle.chain.specs.declared.Chain.{Chain}
 use Rattle.sizing.specs.Checks.{limit, Enough, run_checks, run_refusal, run_numbers}
 use Rattle.sizing.proofs.ChecksLaws.{run_numbered}
 use Rattle.sizing.specs.Accepted.{Accepted}
 use Rattle.sizing.proofs.AcceptedLaws.{run_accepts}
-use Rattle.deadline.specs.Deadline.{earlier, deadline, index_check, index, FirstPassing}
+use Rattle.deadline.specs.Deadline.{deadline, index_check, index, FirstPassing}
 use Rattle.deadline.proofs.DeadlineLaws.{index_exact, index_silent, index_only}
-use Rattle.dates.specs.declared.DeadlineAnswer.{DeadlineAnswer}
 use Rattle.dates.specs.Question.{answered_due, ask_check, deadline_checks, deadline_refusal, deadline_answer, ask_numbers, deadline_numbers}
 
 -- 11 says the node asked, exactly where the node or the firing does not exist

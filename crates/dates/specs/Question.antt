@@ -11,25 +11,18 @@
 --   deadline_most              no deadline is above 4,294,967,294 × 1,000,000 where no index passes
 --   dated_had, dated_never     what dated_of is where 13 is silent, and where it speaks
 --   dated_exact                it is never exactly when 13 speaks
-use Rattle.std.proofs.Math.Logic.Iff
-use Rattle.std.specs.Prelude.{◌≡◌, refl, ◌↔◌, ◌≢◌, ◌⊎◌, false, cond, ◌||◌, List, [], ◌∷◌, ◌++◌, ℕ, zero, suc, ◌+◌, ◌-◌, ◌*◌, ◌^◌, ◌≤◌, ◌<◌, ltb, eqb, get_or, take}
-use Rattle.std.proofs.Common.{sym, mul-le-mul, eq-eqb, ne_eqb}
+use Rattle.std.specs.Prelude.{◌≡◌, refl, ◌↔◌, cond, ◌||◌, List, [], ◌∷◌, ◌++◌, ℕ, zero, suc, ◌+◌, ◌-◌, ◌*◌, ◌^◌, ◌≤◌, ◌<◌, ltb, eqb}
+use Rattle.std.proofs.Common.{mul-le-mul, eq-eqb, ne_eqb}
 use native.Mathlib.Omega.{arith}
-use Rattle.std.proofs.lemmas.Bool.{eqb-false}
-use Rattle.chain.specs.Tests.{below_true, below_false, equal_true, or_true, or_false}
-use Rattle.chain.specs.Refusals.{refused, fine, test, first, or_else, first_append, Silent, Silents, or_silents, silent_as, first_silent}
-use Rattle.chain.specs.Refusals.{Numbered, Only, only_test, test_exact, test_silent, said_earlier, numbered_append}
-use Rattle.chain.proofs.RefusalsLaws.{exact_at}
+use Rattle.chain.specs.Tests.{below_false}
+use Rattle.chain.specs.Refusals.{fine, test, first, Silent, or_silents}
+use Rattle.chain.specs.Refusals.{test_silent}
 use Rattle.chain.specs.Record.{row_of}
 use Rattle.chain.specs.Sound.{Sound}
 use Rattle.chain.specs.declared.Refusal.{Refusal}
 use Rattle.chain.specs.declared.Chain.{Chain}
-use Rattle.sizing.specs.Checks.{limit, Enough, run_checks, run_refusal, run_numbers}
-use Rattle.sizing.proofs.ChecksLaws.{run_numbered}
-use Rattle.sizing.specs.Accepted.{Accepted}
-use Rattle.sizing.proofs.AcceptedLaws.{run_accepts}
-use Rattle.deadline.specs.Deadline.{earlier, deadline, index_check, index, FirstPassing}
-use Rattle.deadline.proofs.DeadlineLaws.{index_exact, index_silent, index_only}
+use Rattle.sizing.specs.Checks.{limit, run_checks, run_refusal, run_numbers}
+use Rattle.deadline.specs.Deadline.{earlier, deadline, index_check}
 use Rattle.dates.specs.declared.DeadlineAnswer.{DeadlineAnswer}
 
 -- "a refusal gives number and place, all other results zero"

@@ -6,7 +6,7 @@
 --   deadline_mono              deadlines are monotone in the index
 --   deadline_shift             and shift by Δ_0×y where each queue below is fed what it gives: p×Δ_(i−1) = c×Δ_i
 use Rattle.std.proofs.Math.Logic.Iff
-use Rattle.std.specs.Prelude.{◌≡◌, ◌↔◌, ◌⊎◌, cond, ltb, leb}
+use Rattle.std.specs.Prelude.{◌≡◌, ◌↔◌, ◌⊎◌, ltb}
 use Rattle.std.proofs.Math.Path.{refl, subst}
 use Rattle.std.proofs.Common.{ap, inl, inr, ⊎_elim, le-leb}
 use Rattle.std.proofs.Math.Logic.{by_cases}
@@ -17,12 +17,9 @@ use native.Mathlib.Omega.{arith}
 use Rattle.std.proofs.lemmas.Bool.{lt-leb}
 use Rattle.arith.specs.Division.{floor_mono, floor_shift}
 use Rattle.words.specs.declared.Queue.{Queue}
-use Rattle.onequeue.specs.Capacity.{capacity}
-use Rattle.onequeue.specs.Least.{least}
 use Rattle.chain.specs.Tests.{below_true, below_false, sum_iff}
-use Rattle.chain.specs.Refusals.{refused, test, or_else, Silent, or_says, or_silents, test_exact, test_silent, Only, only_test, only_or}
+use Rattle.chain.specs.Refusals.{refused, test, Silent, or_says, or_silents, test_exact, test_silent, Only, only_test, only_or}
 use Rattle.chain.specs.Record.{row_of}
-use Rattle.chain.specs.declared.Refusal.{Refusal}
 use Rattle.chain.specs.declared.Chain.{Chain}
 use Rattle.sizing.specs.Sizes.{capacity_of}
 use Rattle.sizing.specs.Checks.{limit}

@@ -1,10 +1,8 @@
 -- Deadlines of 000's example (01, Figures), each computed.
 --   first_figure, fifth_figure, sixth_figure
 --                            the first two deadlines of N_1, of N_5 and of N_6
-use Rattle.std.specs.Prelude.{◌≡◌, refl, [], ◌∷◌}
+use Rattle.std.specs.Prelude.{◌≡◌, refl}
 use Rattle.words.specs.Table.{tab}
-use Rattle.chain.specs.Factory.{queue, made}
-use Rattle.chain.specs.declared.Chain.{Chain}
 use Rattle.deadline.specs.Deadline.{deadline}
 use Rattle.deadline.specs.Figures.{example}
 

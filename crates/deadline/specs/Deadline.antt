@@ -4,22 +4,12 @@
 --   index_check c i k          13: an index on the way down passes the limit
 --   index c i k j              N_j's index on the way down from N_i's k
 --   FirstPassing c i k L       13 in words: of the indices on the way down, N_L's is the first that passes
-use Rattle.std.proofs.Math.Logic.Iff
-use Rattle.std.specs.Prelude.{◌≡◌, ◌↔◌, ◌⊎◌, cond, ltb, leb}
-use Rattle.std.proofs.Math.Path.{refl, subst}
-use Rattle.std.proofs.Common.{ap, inl, inr, ⊎_elim, le-leb}
-use Rattle.std.proofs.Math.Logic.{by_cases}
+use Rattle.std.specs.Prelude.{cond, ltb, leb}
 use Prim.Native.Nat.{ℕ, zero, suc, ◌+◌, ◌-◌, ◌*◌, ◌/◌, ◌≤◌, ◌<◌}
-use Rattle.std.proofs.Math.Nat.{mul-le-mul_right, le_step, le_refl}
-use Rattle.std.proofs.Math.Decide.{dec_le}
-use native.Mathlib.Omega.{arith}
-use Rattle.std.proofs.lemmas.Bool.{lt-leb}
-use Rattle.arith.specs.Division.{floor_mono, floor_shift}
 use Rattle.words.specs.declared.Queue.{Queue}
 use Rattle.onequeue.specs.Capacity.{capacity}
 use Rattle.onequeue.specs.Least.{least}
-use Rattle.chain.specs.Tests.{below_true, below_false, sum_iff}
-use Rattle.chain.specs.Refusals.{refused, test, or_else, Silent, or_says, or_silents, test_exact, test_silent, Only, only_test, only_or}
+use Rattle.chain.specs.Refusals.{test, or_else}
 use Rattle.chain.specs.Record.{row_of}
 use Rattle.chain.specs.declared.Refusal.{Refusal}
 use Rattle.chain.specs.declared.Chain.{Chain}

@@ -2,7 +2,7 @@
 --   integer_minus, _plain  its two cases
 --   minus_exact            the first byte is a minus sign exactly where the number is negative
 --   integer_short, _word   at most a byte more than the text of its size; at most 11 for a number of 32 bits
-use Rattle.std.specs.Prelude.{◌≡◌, refl, true, false, ◌↔◌, List, ◌∷◌, ℕ, suc, ◌+◌, ◌^◌, ◌≤◌, ◌<◌, length, get_or, ℤ, pos, negsuc, nat_abs}
+use Rattle.std.specs.Prelude.{◌≡◌, refl, true, false, ◌↔◌, ◌∷◌, ℕ, suc, ◌+◌, ◌^◌, ◌≤◌, ◌<◌, length, get_or, ℤ, pos, negsuc, nat_abs}
 use Rattle.std.proofs.Common.{arith, ltb-true}
 use Rattle.std.specs.Int.Signed.{lt_z}
 use Rattle.decimal.specs.Digits.{decimal}

@@ -1,7 +1,7 @@
 -- The events of one queue, and what it holds after them (01, Firing).
 --   contents_after      and what is held after more events
 --   balance             what was held and what was put is what is held and what was taken
-use Rattle.std.specs.Prelude.{◌≡◌, refl, List, [], ◌∷◌, ◌++◌, ℕ, zero, suc, ◌+◌, ◌-◌, ◌*◌, ◌≤◌, ◌<◌}
+use Rattle.std.specs.Prelude.{◌≡◌, refl, List, [], ◌∷◌, ◌++◌, ℕ, ◌+◌, ◌-◌, ◌*◌, ◌≤◌}
 use Rattle.std.proofs.Common.{arith}
 use Rattle.events.specs.Events.{Event, puts, takes, contents, Allowed, put, take}
 

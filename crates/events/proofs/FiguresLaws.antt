@@ -6,7 +6,7 @@
 use Rattle.std.specs.Prelude.{◌≡◌, refl, List, [], ◌∷◌, ◌++◌, ℕ, ◌+◌, ◌-◌, ◌<◌}
 use Rattle.std.proofs.Common.{subst, arith}
 use Rattle.onequeue.specs.Least.{least}
-use Rattle.events.specs.Events.{Event, put, take, puts, contents, Allowed, Settled, Holds}
+use Rattle.events.specs.Events.{Event, put, take, contents, Settled, Holds}
 use Rattle.events.specs.Figures.{feed_run, feed_three, Below, feed_three_below}
 
 -- and each put less

@@ -1,17 +1,15 @@
 -- The naming law: the naming count of productions shows the minimum, whatever the order (01, demand 3's naming count).
 --   naming_law                  after so many puts, at some moment the queue has held its minimum
-use Rattle.std.specs.Prelude.{◌≡◌, refl, List, [], ◌∷◌, ◌++◌, ℕ, zero, suc, ◌+◌, ◌-◌, ◌*◌, ◌/◌, ◌%◌, ◌≤◌, ◌<◌}
-use Rattle.std.proofs.Common.{sym, ◌∙◌, ap, subst, lt_of_not-le, mul-le-mul_left, mul_comm, arith}
-use Rattle.std.proofs.Math.Nat.{add-mod}
-use Rattle.std.proofs.Math.Decide.{dec_le}
-use Rattle.arith.specs.Division.{ceil, rest_of_sum, same_rest_gap}
+use Rattle.std.specs.Prelude.{◌≡◌, List, [], ◌∷◌, ◌++◌, ℕ, ◌+◌, ◌-◌, ◌*◌, ◌/◌, ◌%◌, ◌≤◌, ◌<◌}
+use Rattle.std.proofs.Common.{◌∙◌, ap, subst, mul-le-mul_left, mul_comm, arith}
+use Rattle.arith.specs.Division.{ceil}
 use Rattle.arith.proofs.DivisionLaws.{ceil_above}
 use Rattle.arith.specs.Gcd.{gcd, gcd_pos_left}
 use Rattle.arith.specs.Bezout.{Meets, window}
 use Rattle.onequeue.specs.Residue.{residue}
 use Rattle.onequeue.proofs.ResidueLaws.{residue_largest}
 use Rattle.onequeue.specs.Least.{least}
-use Rattle.events.specs.Events.{Event, put, take, puts, takes, contents, Allowed, owed, Holds}
+use Rattle.events.specs.Events.{Event, put, puts, takes, contents, Allowed, owed, Holds}
 use Rattle.events.proofs.EventsLaws.{contents_after, balance}
 use Rattle.events.specs.Peak.{allowed_before}
 use Rattle.events.specs.Naming.{Put, put_at, at_least, rest_add}

@@ -3,11 +3,8 @@
 --   allowed_before, settled_before
 --                               the first events of such a list are such a list
 --   peak_always                 so the minimum is not passed at any moment
-use Rattle.std.specs.Prelude.{◌≡◌, List, [], ◌∷◌, ◌++◌, ℕ, suc, ◌+◌, ◌-◌, ◌*◌, ◌/◌, ◌%◌, ◌≤◌, ◌<◌}
-use Rattle.std.proofs.Common.{sym, ◌∙◌, subst, le_trans, arith}
-use Rattle.arith.specs.Division.{rest_of_sum}
-use Rattle.arith.specs.Gcd.{gcd, gcd_pos_left, gcd_mul_left, gcd_mul_right}
-use Rattle.onequeue.proofs.ResidueLaws.{residue_largest}
+use Rattle.std.specs.Prelude.{◌≡◌, List, [], ◌∷◌, ◌++◌, ℕ, suc, ◌+◌, ◌-◌, ◌*◌, ◌≤◌, ◌<◌}
+use Rattle.std.proofs.Common.{subst, le_trans, arith}
 use Rattle.onequeue.specs.Least.{least}
 use Rattle.onequeue.proofs.LeastLaws.{minimum_threshold}
 use Rattle.events.specs.Events.{Event, put, take, contents, Allowed, Settled, Holds}

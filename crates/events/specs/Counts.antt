@@ -1,10 +1,7 @@
 -- How often the node behind a queue has fired in the immediate run (01, Firing; 004, Lemma 5.1).
 --   τ, c, m                     threshold and consume; how many tokens came in all, those at the start among them
 --   fires τ c m                 the count of firings: one step of 01's F
-use Rattle.std.specs.Prelude.{◌≡◌, cond, ◌↔◌, ℕ, zero, suc, ◌+◌, ◌-◌, ◌*◌, ◌/◌, ◌≤◌, ◌<◌, ltb}
-use Rattle.std.proofs.Common.{sym, ap, lt_of_not-le, le-div_iff_mul-le, arith, lt-ltb, le-ltb}
-use Rattle.std.proofs.Math.Decide.{dec_le}
-use Rattle.arith.specs.Division.{floor_above, floor_unique, floor_mono, floor_shift}
+use Rattle.std.specs.Prelude.{cond, ℕ, ◌+◌, ◌-◌, ◌/◌, ltb}
 
 -- "F_(i+1) is 0 while p×F_i is below τ, else (p×F_i − τ)/c rounded down, plus 1", of m tokens for p×F_i
 unfoldable pub fires : ℕ → ℕ → ℕ → ℕ

@@ -7,7 +7,7 @@
 --   Settled p τ c x es  each put of es finds less than τ
 --   owed                where something was taken, the last take found τ
 --   Holds p c x es b    at some moment of es the queue holds at least b
-use Rattle.std.specs.Prelude.{◌≡◌, refl, List, [], ◌∷◌, ◌++◌, ℕ, zero, suc, ◌+◌, ◌-◌, ◌*◌, ◌≤◌, ◌<◌}
+use Rattle.std.specs.Prelude.{◌≡◌, List, [], ◌∷◌, ◌++◌, ℕ, zero, suc, ◌+◌, ◌-◌, ◌*◌, ◌≤◌, ◌<◌}
 use Rattle.std.proofs.Common.{arith}
 
 -- 01's finished firing, as the queue sees it: that of the node before it, or that of the node behind it

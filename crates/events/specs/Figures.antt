@@ -4,10 +4,9 @@
 --   feed_three                  its events up to the third put
 --   feed_three_allowed, feed_three_puts, feed_three_short
 --                               an allowed list with 3 puts that never holds 10, so that no count below P6's 4 would do
-use Rattle.std.specs.Prelude.{◌≡◌, refl, List, [], ◌∷◌, ◌++◌, ℕ, ◌+◌, ◌-◌, ◌<◌}
-use Rattle.std.proofs.Common.{subst, arith}
-use Rattle.onequeue.specs.Least.{least}
-use Rattle.events.specs.Events.{Event, put, take, puts, contents, Allowed, Settled, Holds}
+use Rattle.std.specs.Prelude.{◌≡◌, refl, List, [], ◌∷◌, ℕ, ◌+◌, ◌-◌, ◌<◌}
+use Rattle.std.proofs.Common.{arith}
+use Rattle.events.specs.Events.{Event, put, take, puts, Allowed}
 
 -- P5's run with k = 4
 abbrev pub feed_run : List Event

@@ -3,14 +3,13 @@
 --   room                        a queue below τ has room for one production within its minimum
 --   allowed_before, settled_before
 --                               the first events of such a list are such a list
-use Rattle.std.specs.Prelude.{◌≡◌, List, [], ◌∷◌, ◌++◌, ℕ, suc, ◌+◌, ◌-◌, ◌*◌, ◌/◌, ◌%◌, ◌≤◌, ◌<◌}
-use Rattle.std.proofs.Common.{sym, ◌∙◌, subst, le_trans, arith}
+use Rattle.std.specs.Prelude.{◌≡◌, List, [], ◌∷◌, ◌++◌, ℕ, ◌+◌, ◌-◌, ◌*◌, ◌/◌, ◌%◌, ◌≤◌, ◌<◌}
+use Rattle.std.proofs.Common.{sym, ◌∙◌, arith}
 use Rattle.arith.specs.Division.{rest_of_sum}
 use Rattle.arith.specs.Gcd.{gcd, gcd_pos_left, gcd_mul_left, gcd_mul_right}
 use Rattle.onequeue.proofs.ResidueLaws.{residue_largest}
 use Rattle.onequeue.specs.Least.{least}
-use Rattle.onequeue.proofs.LeastLaws.{minimum_threshold}
-use Rattle.events.specs.Events.{Event, put, take, contents, Allowed, Settled, Holds}
+use Rattle.events.specs.Events.{Event, put, take, Allowed}
 
 -- by the balance, what is held has the remainder of s on division by a common divisor g of p and c
 rest_held : (s p c g u w N M x : ℕ) → g * u ≡ p → g * w ≡ c → s + p * N ≡ x + c * M → x % g ≡ s % g

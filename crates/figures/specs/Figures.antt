@@ -8,14 +8,14 @@
 --   same, all_right          the computed test
 use Rattle.std.specs.Prelude.{◌≡◌, refl, Bool, true, false, ◌&&◌, ℕ, zero, suc, ◌<◌, T, eqb, length, get_or, replicate}
 use Rattle.std.proofs.Common.{ap₂, arith, eqb→eq}
-use mathlib.Core.List.{List, [], ◌∷◌, ◌++◌, flat_map}
+use mathlib.Core.List.{List, [], ◌∷◌, ◌++◌}
 use Rattle.ardenquill.specs.Records.{Chain}
 use Rattle.figures.specs.Questions.{analyse, checked_for_run, fresh, fire, immediate, deadline, tick, tick_for_c, deadline_run}
-use Rattle.figures.specs.Questions.{deadline_run_for_c, deadline_run_refusal, answer_to, chain_numbers, state_numbers}
-use Rattle.figures.specs.Literals.{Row, repeated, row, chain, feed, permeate, flush, run, refused, state_is, sizes_are, keeps, clean_at, overflowed_at}
+use Rattle.figures.specs.Questions.{deadline_run_for_c, deadline_run_refusal, answer_to, state_numbers}
+use Rattle.figures.specs.Literals.{Row, row, chain, feed, permeate, flush, run, refused, state_is, sizes_are, keeps, clean_at, overflowed_at}
 use Rattle.figures.specs.Files.{full, files, reports}
-use Rattle.figures.specs.ChainRefusals.{chain_refusals, by_file, by_record, accepted}
-use Rattle.figures.specs.RunRefusals.{run_refusals, by_state}
+use Rattle.figures.specs.ChainRefusals.{chain_refusals}
+use Rattle.figures.specs.RunRefusals.{run_refusals}
 
 -- what the figures change in the factory chains
 abbrev pub permeate_written : Chain

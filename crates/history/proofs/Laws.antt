@@ -10,18 +10,15 @@ use Rattle.std.specs.Prelude.{◌≡◌, refl, List, [], ◌∷◌, ◌++◌, �
 use Rattle.std.proofs.Common.{sym, subst, ◌∙◌, le_trans, le_antisymm, arith}
 use Rattle.std.proofs.Math.Logic.{by_cases}
 use Rattle.std.proofs.Math.Decide.{ℕ_discrete}
-use Rattle.std.proofs.lemmas.List.{length-replicate}
-use Rattle.words.specs.Table.{length_tab}
 use Rattle.chain.specs.Record.{row_of}
-use Rattle.chain.specs.Sound.{Sound, SoundRow}
+use Rattle.chain.specs.Sound.{SoundRow}
 use Rattle.chain.specs.declared.Chain.{Chain}
 use Rattle.sizing.specs.Sizes.{start, minimum_of, naming_of}
 use Rattle.sizing.specs.Accepted.{Accepted}
 use Rattle.state.specs.State.{count_at, held_at, fresh_run, fresh_count, fresh_held}
-use Rattle.state.specs.Fired.{fired, Slots}
+use Rattle.state.specs.Fired.{fired}
 use Rattle.state.proofs.FiredLaws.{counts_length, count_fired, count_other}
 use Rattle.state.specs.declared.Run.{Run}
-use Rattle.events.specs.Events as one
 use Rattle.events.proofs.EventsLaws as one_laws
 use Rattle.events.specs.Events.{contents, Allowed, Settled, Holds}
 use Rattle.events.proofs.PeakLaws.{peak_law}

@@ -5,12 +5,11 @@
 --   held_contents            after a permitted history the queue holds what its events leave in it
 --   queue_allowed            each of its takes finds τ
 --   queue_settled            and where the history is prompt, no put does
-use Rattle.std.specs.Prelude.{◌≡◌, Bool, true, false, cond, ◌≢◌, ◌⊎◌, eqb}
+use Rattle.std.specs.Prelude.{◌≡◌, ◌≢◌}
 use Rattle.std.proofs.Math.Path.{refl, sym, ap}
-use Rattle.std.proofs.Common.{subst, ◌∙◌, inl, inr, ⊎_elim, arith, eq-eqb, ne_eqb, eqb-true}
+use Rattle.std.proofs.Common.{subst, ◌∙◌, arith, eq-eqb, ne_eqb}
 use mathlib.Core.List.{List, [], ◌∷◌, ◌++◌, append_assoc}
-use Prim.Native.Nat.{ℕ, suc, ◌+◌, ◌-◌, ◌<◌}
-use Rattle.std.proofs.lemmas.Bool.{eqb-false}
+use Prim.Native.Nat.{ℕ, suc, ◌<◌}
 use Rattle.chain.specs.Refusals.{Silent}
 use Rattle.chain.specs.Record.{row_of}
 use Rattle.chain.specs.declared.Chain.{Chain}
@@ -20,7 +19,7 @@ use Rattle.state.proofs.FiredLaws.{slots_kept, held_output, held_input, held_oth
 use Rattle.state.specs.Fire.{fire_refusal}
 use Rattle.state.proofs.FireLaws.{fire_accepts}
 use Rattle.state.specs.declared.Run.{Run}
-use Rattle.events.specs.Events.{Event, put, take, puts, takes, contents, Allowed, Settled}
+use Rattle.events.specs.Events.{puts, takes, contents, Allowed, Settled}
 use Rattle.events.proofs.EventsLaws.{contents_after}
 use Rattle.history.specs.History.{times, after, Permitted, Prompt, EachFiring}
 use Rattle.history.specs.Queues.{seen, events, seen_cases, allowed_append, settled_append}

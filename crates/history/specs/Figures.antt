@@ -5,7 +5,6 @@
 --   feed_permitted, feed_prompt
 --                            manual firing accepts each firing in turn, and the source fires only below threshold
 use Rattle.std.specs.Prelude.{◌≡◌, refl, List, [], ◌∷◌, ℕ}
-use Rattle.std.proofs.Common.{arith}
 use Rattle.chain.specs.Record.{row_of}
 use Rattle.chain.specs.Factory.{factory_answer}
 use Rattle.chain.specs.declared.Chain.{Chain}
@@ -14,7 +13,7 @@ use Rattle.sizing.specs.Sizes.{minimum_of}
 use Rattle.state.specs.State.{held_at, fresh_run}
 use Rattle.state.specs.Fired.{fired}
 use Rattle.state.specs.Fire.{fire_refusal}
-use Rattle.history.specs.History.{after, Permitted, Prompt, EachFiring}
+use Rattle.history.specs.History.{after, Permitted, EachFiring}
 
 -- the factory chain 0
 abbrev pub feed : Chain

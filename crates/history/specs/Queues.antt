@@ -7,22 +7,11 @@
 --   cut                      there is one for the first events of each history
 use Rattle.std.specs.Prelude.{◌≡◌, Bool, true, false, cond, ◌≢◌, ◌⊎◌, eqb}
 use Rattle.std.proofs.Math.Path.{refl, sym, ap}
-use Rattle.std.proofs.Common.{subst, ◌∙◌, inl, inr, ⊎_elim, arith, eq-eqb, ne_eqb, eqb-true}
-use mathlib.Core.List.{List, [], ◌∷◌, ◌++◌, append_assoc}
-use Prim.Native.Nat.{ℕ, suc, ◌+◌, ◌-◌, ◌<◌}
+use Rattle.std.proofs.Common.{◌∙◌, inl, inr, ⊎_elim, arith, eqb-true}
+use mathlib.Core.List.{List, [], ◌∷◌, ◌++◌}
+use Prim.Native.Nat.{ℕ, suc, ◌+◌, ◌-◌}
 use Rattle.std.proofs.lemmas.Bool.{eqb-false}
-use Rattle.chain.specs.Refusals.{Silent}
-use Rattle.chain.specs.Record.{row_of}
-use Rattle.chain.specs.declared.Chain.{Chain}
-use Rattle.state.specs.State.{held_at}
-use Rattle.state.specs.Fired.{fired, Over, over_enough, Slots}
-use Rattle.state.proofs.FiredLaws.{slots_kept, held_output, held_input, held_other}
-use Rattle.state.specs.Fire.{fire_refusal}
-use Rattle.state.proofs.FireLaws.{fire_accepts}
-use Rattle.state.specs.declared.Run.{Run}
-use Rattle.events.specs.Events.{Event, put, take, puts, takes, contents, Allowed, Settled}
-use Rattle.events.proofs.EventsLaws.{contents_after}
-use Rattle.history.specs.History.{times, after, Permitted, Prompt, EachFiring}
+use Rattle.events.specs.Events.{Event, put, take, contents, Allowed, Settled}
 
 -- a firing of N_q puts into queue q, one of N_(q+1) takes from it, and no other touches it
 unfoldable pub seen : ℕ → ℕ → List Event

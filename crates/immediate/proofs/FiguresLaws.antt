@@ -1,11 +1,9 @@
 -- The limit of an immediate run, computed.
 --   limit_figure             a million firings of each node are not refused
 --   past_figure              one more is refused 9, at the source
-use Rattle.std.specs.Prelude.{◌≡◌, refl, [], ◌∷◌}
+use Rattle.std.specs.Prelude.{◌≡◌, refl}
 use Rattle.words.specs.Table.{tab}
 use Rattle.chain.specs.Refusals.{refused, fine}
-use Rattle.chain.specs.Factory.{queue, made}
-use Rattle.chain.specs.declared.Chain.{Chain}
 use Rattle.immediate.specs.Checks.{length_check}
 use Rattle.immediate.specs.Figures.{relay}
 

@@ -19,7 +19,7 @@ use Rattle.schedule.specs.Schedule.{schedule, fresh_tight}
 use Rattle.schedule.proofs.ScheduleLaws.{unique}
 use Rattle.flow.specs.Flow.{threshold_in, held_in, size_in, firing, Shows, Ready, shows_fired}
 use Rattle.flow.specs.Shown.{shown, shown_is}
-use Rattle.immediate.specs.Steps.{Bounds, Held, Trail, trail_none, trail_then, FireAsk, FireDone, SettleAsk, SettleDone, Settling}
+use Rattle.immediate.specs.Steps.{Bounds, Trail, trail_none, trail_then, FireAsk, FireDone, SettleAsk, Settling}
 use Rattle.immediate.proofs.StepsLaws.{fire_word, fire_may}
 use Rattle.immediate.proofs.StepsLaws.{fire_settle, fire_done, fire_sink, settle_none, settle_fire, settle_more, settle_less, settle_done}
 use Rattle.immediate.specs.Lent.{Fire, Settle, Showing, FireGives, SettleGives, Going, Driven, Driving}

@@ -6,10 +6,8 @@ use Rattle.std.proofs.Math.Path.{sym, ap}
 use Rattle.std.proofs.Common.{◌∙◌, arith}
 use Rattle.std.proofs.Math.Numerals.{add-one}
 use Rattle.words.specs.Table.{tab, below_next}
-use Rattle.words.specs.declared.Queue.{Queue}
 use Rattle.chain.specs.Refusals.{refused, fine, first_fine}
 use Rattle.chain.specs.Record.{row_of}
-use Rattle.chain.specs.Sound.{SoundRow}
 use Rattle.chain.specs.declared.Chain.{Chain}
 use Rattle.sizing.specs.Sizes.{start}
 use Rattle.events.specs.Counts.{fires}

@@ -26,7 +26,6 @@ use Rattle.history.specs.History.{after}
 use Rattle.schedule.specs.Counts.{F}
 use Rattle.schedule.specs.Reached.{Reached, Calm}
 use Rattle.schedule.proofs.ReachedLaws.{one_state}
-use Rattle.schedule.specs.Schedule as order
 use Rattle.schedule.proofs.ScheduleLaws as order_laws
 use Rattle.schedule.specs.Schedule.{schedule}
 use Rattle.schedule.proofs.ScheduleLaws.{counts_are_F}

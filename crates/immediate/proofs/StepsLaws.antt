@@ -3,25 +3,22 @@
 --   fire_may                 such a node may fire
 --   fire_settle, _done, _sink, settle_none, _fire, _more, _less, _done
 --                            the steps
-use Rattle.std.specs.Prelude.{◌≡◌, refl, List, [], ◌∷◌, ◌++◌}
-use Rattle.std.proofs.Common.{sym, ap, subst, ◌∙◌, ⊎_elim, eq-or-lt_of_le, arith}
+use Rattle.std.specs.Prelude.{◌≡◌, refl}
+use Rattle.std.proofs.Common.{subst, ◌∙◌, ⊎_elim, eq-or-lt_of_le, arith}
 use Prim.Native.Nat.{ℕ, suc, ◌+◌, ◌*◌, ◌≤◌, ◌<◌}
 use Rattle.chain.specs.Record.{row_of}
 use Rattle.chain.specs.Sound.{Sound}
 use Rattle.chain.specs.declared.Chain.{Chain}
 use Rattle.sizing.specs.Sizes.{start}
-use Rattle.sizing.specs.Checks.{Enough}
-use Rattle.sizing.specs.Accepted.{Accepted}
 use Rattle.events.proofs.CountsLaws.{fires_reach}
 use Rattle.state.specs.State.{count_at, held_at}
-use Rattle.state.specs.Fired.{fired, Over, May}
+use Rattle.state.specs.Fired.{fired, May}
 use Rattle.state.proofs.FiredLaws.{count_fired, count_other, held_other}
 use Rattle.state.specs.declared.Run.{Run}
-use Rattle.history.specs.History.{after, EachFiring, after_append, each_append}
 use Rattle.schedule.specs.Counts.{F, fed}
 use Rattle.schedule.proofs.CountsLaws.{fed_mono}
-use Rattle.schedule.specs.Reached.{Reached, Calm, reached_fired}
-use Rattle.schedule.specs.Schedule.{Next, Follows, Tight}
+use Rattle.schedule.specs.Reached.{reached_fired}
+use Rattle.schedule.specs.Schedule.{Next}
 use Rattle.schedule.proofs.ScheduleLaws.{tight_fired, next_firing}
 use Rattle.immediate.specs.Checks.{most}
 use Rattle.immediate.specs.Steps.{Held, FireAsk, trail_none, trail_first, trail_then, FireDone, SettleAsk, SettleDone, Settling}

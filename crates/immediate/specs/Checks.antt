@@ -6,21 +6,12 @@
 --   immediate_refusal c k, immediate_answer c k
 --                              what it is refused with, and the whole answer: the state after its schedule, from a fresh start
 --   FirstTooLong               9 in words
-use Rattle.std.proofs.Math.Logic.Iff
-use Rattle.std.specs.Prelude.{◌≡◌, refl, ◌↔◌, ◌≢◌, List, [], ◌∷◌, ◌++◌, ℕ, suc, ◌+◌, ◌≤◌, ◌<◌, ltb}
-use Rattle.std.proofs.Common.{sym, ◌∙◌, arith, eq-eqb, ne_eqb}
-use Rattle.std.proofs.Math.Path.{ap}
+use Rattle.std.specs.Prelude.{List, [], ◌∷◌, ◌++◌, ℕ, suc, ◌≤◌, ◌<◌, ltb}
 use Rattle.words.specs.Table.{tab}
-use Rattle.chain.specs.Tests.{below_true, below_false}
-use Rattle.chain.specs.Refusals.{refused, test, first, or_else, first_append, first_last, Silent, Silents, Numbered, or_silents, silent_as}
-use Rattle.chain.proofs.RefusalsLaws.{exact_at}
-use Rattle.chain.specs.Refusals.{Lowest, lowest_is, Only, only_test, only_tab, test_exact, test_silent, all_silent, said_earlier, numbered_append}
+use Rattle.chain.specs.Refusals.{test, first}
 use Rattle.chain.specs.declared.Refusal.{Refusal}
 use Rattle.chain.specs.declared.Chain.{Chain}
-use Rattle.sizing.specs.Checks.{Enough, run_checks, run_refusal, run_numbers}
-use Rattle.sizing.proofs.ChecksLaws.{run_numbered}
-use Rattle.sizing.specs.Accepted.{Accepted}
-use Rattle.sizing.proofs.AcceptedLaws.{run_accepts}
+use Rattle.sizing.specs.Checks.{run_checks, run_refusal, run_numbers}
 use Rattle.state.specs.State.{empty_run, fresh_run, answered}
 use Rattle.state.specs.declared.RunAnswer.{RunAnswer}
 use Rattle.history.specs.History.{after}

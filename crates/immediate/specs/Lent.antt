@@ -7,23 +7,13 @@
 --   Source c m s             only the source may fire, and has fired m times
 --   Driven k c m l           the flow l shows a calm state after m of k source firings
 --   Driving k l m u          of every fresh start that l shows, u shows it driven so far
-use Rattle.std.specs.Prelude.{◌≡◌, List, ℕ, suc, ◌+◌, ◌≤◌, ◌<◌}
-use Rattle.std.proofs.Common.{sym, ap, subst, ◌∙◌, add-one, arith}
-use Rattle.chain.specs.Record.{row_of}
-use Rattle.chain.specs.Sound.{Sound}
+use Rattle.std.specs.Prelude.{◌≡◌, List, ℕ, ◌≤◌}
 use Rattle.chain.specs.declared.Chain.{Chain}
-use Rattle.state.specs.State.{count_at, held_at, fresh_run, fresh_count}
-use Rattle.state.specs.Fired.{fired}
+use Rattle.state.specs.State.{count_at, fresh_run}
 use Rattle.state.specs.declared.Run.{Run}
-use Rattle.history.specs.History.{times, after}
-use Rattle.history.proofs.Laws.{counted_from}
-use Rattle.schedule.specs.Counts.{F}
-use Rattle.schedule.specs.Reached.{Reached, Calm, reached_fresh, fresh_calm}
-use Rattle.schedule.specs.Schedule.{schedule, fresh_tight}
-use Rattle.schedule.proofs.ScheduleLaws.{unique}
-use Rattle.flow.specs.Flow.{threshold_in, held_in, size_in, firing, Shows, Ready, shows_fired}
-use Rattle.flow.specs.Shown.{shown, shown_is}
-use Rattle.immediate.specs.Steps.{Bounds, Held, Trail, trail_none, trail_then, FireAsk, FireDone, SettleAsk, SettleDone, Settling}
+use Rattle.schedule.specs.Reached.{Calm}
+use Rattle.flow.specs.Flow.{Shows}
+use Rattle.immediate.specs.Steps.{Bounds, Held, Trail, FireAsk, FireDone, SettleAsk, SettleDone, Settling}
 
 -- the flow shows a state in which N_i may fire, nearest the sink
 pub record Fire (l : List ℕ) (i : ℕ) : Type 0 where

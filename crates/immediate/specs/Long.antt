@@ -1,20 +1,12 @@
 -- What the search for the first count that passes the limit knows on its way.
 --   Few q m                  a sound queue, and a count within the limit
 --   Passing c k f i          f is N_i's count, and no count before it passes the limit
-use Rattle.std.specs.Prelude.{◌≡◌, refl, ℕ, suc, ◌+◌, ◌*◌, ◌≤◌, ◌<◌}
-use Rattle.std.proofs.Math.Path.{sym, ap}
-use Rattle.std.proofs.Common.{◌∙◌, arith}
-use Rattle.std.proofs.Math.Numerals.{add-one}
-use Rattle.words.specs.Table.{tab, below_next}
+use Rattle.std.specs.Prelude.{◌≡◌, ℕ, ◌≤◌, ◌<◌}
 use Rattle.words.specs.declared.Queue.{Queue}
-use Rattle.chain.specs.Refusals.{refused, fine, first_fine}
-use Rattle.chain.specs.Record.{row_of}
 use Rattle.chain.specs.Sound.{SoundRow}
 use Rattle.chain.specs.declared.Chain.{Chain}
-use Rattle.sizing.specs.Sizes.{start}
-use Rattle.events.specs.Counts.{fires}
 use Rattle.schedule.specs.Counts.{F}
-use Rattle.immediate.specs.Checks.{most, length_test, length_check}
+use Rattle.immediate.specs.Checks.{most}
 
 -- what the code of a count is handed
 pub record Few (q : Queue) (m : ℕ) : Type 0 where

@@ -8,25 +8,18 @@
 --   SettleDone c s q r       r is calm from the queue's producer on; counts up to it are as they were
 --   Settling c s q r         what holds before each firing of the consumer
 use Rattle.std.specs.Prelude.{◌≡◌, refl, List, [], ◌∷◌, ◌++◌}
-use Rattle.std.proofs.Common.{sym, ap, subst, ◌∙◌, ⊎_elim, eq-or-lt_of_le, arith}
-use Prim.Native.Nat.{ℕ, suc, ◌+◌, ◌*◌, ◌≤◌, ◌<◌}
-use Rattle.chain.specs.Record.{row_of}
-use Rattle.chain.specs.Sound.{Sound}
+use Rattle.std.proofs.Common.{sym, ap, subst, ◌∙◌}
+use Prim.Native.Nat.{ℕ, suc, ◌+◌, ◌≤◌, ◌<◌}
 use Rattle.chain.specs.declared.Chain.{Chain}
-use Rattle.sizing.specs.Sizes.{start}
 use Rattle.sizing.specs.Checks.{Enough}
 use Rattle.sizing.specs.Accepted.{Accepted}
-use Rattle.events.proofs.CountsLaws.{fires_reach}
-use Rattle.state.specs.State.{count_at, held_at}
-use Rattle.state.specs.Fired.{fired, Over, May}
-use Rattle.state.proofs.FiredLaws.{count_fired, count_other, held_other}
+use Rattle.state.specs.State.{count_at}
+use Rattle.state.specs.Fired.{fired, Over}
 use Rattle.state.specs.declared.Run.{Run}
 use Rattle.history.specs.History.{after, EachFiring, after_append, each_append}
-use Rattle.schedule.specs.Counts.{F, fed}
-use Rattle.schedule.proofs.CountsLaws.{fed_mono}
-use Rattle.schedule.specs.Reached.{Reached, Calm, reached_fired}
+use Rattle.schedule.specs.Counts.{F}
+use Rattle.schedule.specs.Reached.{Reached, Calm}
 use Rattle.schedule.specs.Schedule.{Next, Follows, Tight}
-use Rattle.schedule.proofs.ScheduleLaws.{tight_fired, next_firing}
 use Rattle.immediate.specs.Checks.{most}
 
 -- a chain that may run, and counts that stay within the limit

@@ -7,9 +7,7 @@
 --   choose_shift           a common shift of all deadlines changes nothing
 --   chosen_shift           states with the same nodes over threshold, their deadlines shifted alike, have the same node work
 use Rattle.std.specs.Prelude.{◌≡◌, refl, Bool, true, false, cond, ◌&&◌, ◌↔◌, ℕ, zero, suc, ◌+◌, ◌≤◌, ◌<◌}
-use Rattle.std.proofs.Common.{sym, ◌∙◌, true≢false, ⊎_elim, eq-or-lt_of_le, zero-lt-suc, le_antisymm, arith, leb-true, leb-false}
-use Rattle.std.proofs.Math.Logic.{by_cases}
-use Rattle.std.proofs.Math.Decide.{dec_le}
+use Rattle.std.proofs.Common.{sym, ◌∙◌, true≢false, zero-lt-suc, arith, leb-true, leb-false}
 use Rattle.chain.specs.declared.Chain.{Chain}
 use Rattle.state.specs.Checks.{over}
 use Rattle.state.specs.declared.Run.{Run}

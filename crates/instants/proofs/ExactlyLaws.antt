@@ -10,7 +10,7 @@
 --   ticks_exactly              so many ticks end with that
 --   ticks_never_spill, run_never_spills
 --                              so an overflow of them, and of a deadline run, is at queue 0
-use Rattle.std.specs.Prelude.{◌≡◌, refl, ◌↔◌, ◌⊎◌}
+use Rattle.std.specs.Prelude.{◌≡◌, refl, ◌↔◌}
 use Rattle.std.proofs.Common.{sym, ◌∙◌, arith}
 use Rattle.std.proofs.Math.Path.{ap, subst}
 use Rattle.std.proofs.Math.Logic.{inl, inr, ⊎_elim}
@@ -20,7 +20,7 @@ use Rattle.sizing.specs.Checks.{Enough}
 use Rattle.sizing.specs.Accepted.{Accepted}
 use Rattle.state.specs.State.{fresh_run}
 use Rattle.state.specs.declared.Run.{Run}
-use Rattle.instants.specs.Steps.{tick_of, at_of, overflowed, undated, clean, onward, chosen, tick, ticks, instants}
+use Rattle.instants.specs.Steps.{tick_of, at_of, overflowed, undated, onward, chosen, tick, ticks, instants}
 use Rattle.instants.specs.Runs.{unclean_overflow, unclean_undated, overflow_undated}
 use Rattle.instants.proofs.RunsLaws.{ticks_none, ticks_suc}
 use Rattle.instants.proofs.KeptLaws.{tick_running}
@@ -29,7 +29,7 @@ use Rattle.instants.proofs.FilledLaws.{running_filled}
 use Rattle.instants.proofs.FreshLaws.{fresh_running, run_is_ticks}
 use Rattle.instants.specs.Lacking.{FirstLacking}
 use Rattle.instants.proofs.SpillLaws.{finish_fits}
-use Rattle.instants.specs.Source.{Due, Full, Fits, SourceOnce}
+use Rattle.instants.specs.Source.{SourceOnce}
 use Rattle.instants.proofs.SourceLaws.{source_only}
 use Rattle.instants.proofs.OutcomesLaws.{lacking_once, lacking_dated, tick_three}
 use Rattle.instants.specs.Once.{Works, WorkOnce, work_only, TickOnce}

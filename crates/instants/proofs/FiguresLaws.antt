@@ -5,13 +5,10 @@
 --   feed_ticks                 P7 by ticks
 --   late, late_run, late_tick  a node that the source's step brings over threshold, and whose deadline can't be had
 --   late_rests                 where the source does not step it is below threshold, and the tick is clean
-use Rattle.std.specs.Prelude.{◌≡◌, refl, List, [], ◌∷◌, ℕ}
-use Rattle.chain.specs.Factory.{queue, made, factory_answer}
-use Rattle.chain.specs.declared.Chain.{Chain}
-use Rattle.state.specs.State.{fresh_run, count_at, held_at}
-use Rattle.state.specs.declared.Run.{Run}
-use Rattle.instants.specs.Steps.{with_clock, tick, ticks, instants, number_of, values_of}
-use Rattle.instants.specs.declared.Ticked.{Ticked}
+use Rattle.std.specs.Prelude.{◌≡◌, refl, [], ◌∷◌}
+use Rattle.chain.specs.Factory.{factory_answer}
+use Rattle.state.specs.State.{fresh_run}
+use Rattle.instants.specs.Steps.{with_clock, tick, ticks, instants}
 use Rattle.instants.specs.Figures.{feed, feed_working, row, late, late_run}
 
 -- P7: "T=34: source 4, sink 4, held 4"

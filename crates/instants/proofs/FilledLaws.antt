@@ -7,7 +7,7 @@
 --   filled_as                  what a step needs says nothing of the clock or the counts
 --   balanced_as, lacking_as, chosen_as
 --                              a state with the same counts and contents has the same balance, 13 and choice
-use Rattle.std.specs.Prelude.{◌≡◌, refl, ◌&&◌, List, ℕ, zero, suc, ◌+◌, ◌≤◌, ◌<◌, ltb, leb, length, get_or}
+use Rattle.std.specs.Prelude.{◌≡◌, refl, List, ℕ, zero, suc, ◌+◌, ◌≤◌, ◌<◌, leb, length, get_or}
 use Rattle.std.proofs.Common.{sym, ap, subst, ◌∙◌, arith}
 use Rattle.std.proofs.Math.Logic.{by_cases}
 use Rattle.std.proofs.Math.Decide.{ℕ_discrete}
@@ -15,13 +15,12 @@ use Rattle.chain.specs.Record.{row_of, work_of}
 use Rattle.chain.specs.Sound.{Sound}
 use Rattle.chain.specs.declared.Chain.{Chain}
 use Rattle.sizing.specs.Sizes.{capacity_of}
-use Rattle.sizing.specs.Accepted.{Accepted}
 use Rattle.state.specs.State.{held_at, done_at}
-use Rattle.state.specs.Fired.{fired, Over, Room, Slots, Balance, over_enough}
+use Rattle.state.specs.Fired.{fired, Over, Room, Slots, over_enough}
 use Rattle.state.proofs.FiredLaws.{held_output, held_input, held_other, balance_kept}
-use Rattle.state.specs.Checks.{over, cramped, StateSound}
+use Rattle.state.specs.Checks.{over}
 use Rattle.state.specs.declared.Run.{Run}
-use Rattle.slots.specs.Runs.{Whole, fired_whole}
+use Rattle.slots.specs.Runs.{fired_whole}
 use Rattle.deadline.specs.Deadline.{deadline}
 use Rattle.instants.specs.Steps.{lacking, choose, chosen}
 use Rattle.instants.specs.Filled.{Filled, Balanced, Running, at}

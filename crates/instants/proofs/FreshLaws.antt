@@ -6,13 +6,13 @@
 --   fresh_paced, tick_paced    a fresh start is one, and a clean tick leaves one
 --   paced_countable            every count of one can grow
 --   ticks_paced                T clean ticks from a fresh start leave one at clock T
-use Rattle.std.specs.Prelude.{◌≡◌, refl, ℕ, zero, suc, ◌+◌, ◌≤◌, ◌<◌}
+use Rattle.std.specs.Prelude.{◌≡◌, refl, ℕ, zero, suc, ◌≤◌, ◌<◌}
 use Rattle.std.proofs.Common.{sym, ◌∙◌, arith}
 use Rattle.std.proofs.Math.Path.{ap}
 use Rattle.chain.specs.Record.{work_of}
 use Rattle.chain.specs.declared.Chain.{Chain}
 use Rattle.sizing.specs.Accepted.{Accepted}
-use Rattle.state.specs.State.{count_at, done_at, fresh_run, fresh_empty, zeros, fresh_count, fresh_held}
+use Rattle.state.specs.State.{done_at, fresh_run, fresh_empty, zeros, fresh_count, fresh_held}
 use Rattle.state.specs.declared.Run.{Run}
 use Rattle.slots.specs.Runs.{Whole}
 use Rattle.instants.specs.Checks.{longest}

@@ -3,20 +3,18 @@
 --   lack_says, lack_silent     13 of one node: speaking where it is over threshold and its deadline can't be had, and silent elsewhere
 --   lacking_exact, _silent     13 speaks exactly under its condition, and is silent exactly elsewhere
 use Rattle.std.proofs.Math.Logic.Iff
-use Rattle.std.specs.Prelude.{◌≡◌, refl, ◌↔◌, Bool, true, false, ◌&&◌, not, ℕ, zero, suc, ◌≤◌, ◌<◌, eqb}
+use Rattle.std.specs.Prelude.{◌≡◌, refl, ◌↔◌, Bool, true, false, ◌&&◌, not, ℕ, zero, suc, ◌<◌, eqb}
 use Rattle.std.proofs.Common.{sym, ◌∙◌, true≢false, arith}
 use Rattle.std.proofs.Math.Logic.{by_cases}
 use Rattle.std.proofs.Math.Decide.{ℕ_discrete}
 use Rattle.chain.specs.Tests.{equal_true, and_true, negated_true, negated_false}
 use Rattle.chain.specs.Refusals.{refused, Silent, Lowest, lowest_is, all_silent, test_exact, test_silent}
 use Rattle.chain.specs.declared.Chain.{Chain}
-use Rattle.sizing.specs.Checks.{limit}
-use Rattle.state.specs.State.{count_at}
 use Rattle.state.specs.Fired.{Over}
 use Rattle.state.specs.Checks.{over}
 use Rattle.state.proofs.ChecksLaws.{over_true}
 use Rattle.state.specs.declared.Run.{Run}
-use Rattle.deadline.specs.Deadline.{index_check, index}
+use Rattle.deadline.specs.Deadline.{index_check}
 use Rattle.deadline.proofs.DeadlineLaws.{index_exact, index_silent, index_only}
 use Rattle.instants.specs.Steps.{next, lacking_test, lacking}
 use Rattle.instants.specs.Lacking.{Within, Past, FirstLacking}

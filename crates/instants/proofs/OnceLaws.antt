@@ -3,16 +3,16 @@
 --   work_once, work_only       what a tick of work leaves is that, and nothing else is
 --   once_counts, once_keeps    so a clean tick counts one firing of the source more exactly where y divides the clock, and none exactly elsewhere
 use Rattle.std.specs.Prelude.{◌≡◌, refl, ◌↔◌, ◌≢◌, List, ℕ, zero, suc, ◌+◌, ◌≤◌, ◌<◌, get_or}
-use Rattle.std.proofs.Common.{sym, ◌∙◌, zero-lt-suc, ext_get_or}
+use Rattle.std.proofs.Common.{sym, ◌∙◌, zero-lt-suc}
 use Rattle.std.proofs.Math.Path.{ap, subst}
 use Rattle.std.proofs.Math.Logic.{by_cases}
-use Rattle.std.proofs.Math.Decide.{ℕ_discrete, dec_lt, dec_dvd}
+use Rattle.std.proofs.Math.Decide.{ℕ_discrete, dec_dvd}
 use native.Mathlib.Omega.{arith}
 use Rattle.std.proofs.Math.ListN.{length-set}
 use Rattle.std.proofs.Math.Seq.{get_or-set_same, get_or-set_other}
 use Rattle.chain.specs.Record.{row_of, work_of}
 use Rattle.chain.specs.declared.Chain.{Chain}
-use Rattle.state.specs.State.{count_at, held_at, done_at, same_run}
+use Rattle.state.specs.State.{count_at, held_at, done_at}
 use Rattle.state.specs.Fired.{fired, Over, over_enough}
 use Rattle.state.proofs.FiredLaws.{count_fired, count_other, held_output, held_input, held_other, held_sink}
 use Rattle.state.specs.Checks.{over}
@@ -29,8 +29,7 @@ use Rattle.instants.specs.Runs.{unclean_overflow}
 use Rattle.instants.proofs.KeptLaws.{worked_same, works_on, works_filled, works_ends, cleared_filled}
 use Rattle.instants.specs.declared.Outcome.TheVariants.{Clean}
 use Rattle.instants.specs.declared.Ticked.{Ticked}
-use Rattle.instants.specs.Source.{Due, Fits, SourceOnce}
-use Rattle.instants.specs.Outcomes.{Dated}
+use Rattle.instants.specs.Source.{Due}
 use Rattle.instants.specs.Once.{Works, Effect, WorkOnce, cleared, TickOnce, work_source}
 
 -- there is one such node, and it is the one that the definition chooses

@@ -2,7 +2,7 @@
 --   lacking_found, dated_of_law  where 13 speaks there is such a node, and where it is silent there is none
 --   lacking_once, _dated       13 has one place, and none where each has its deadline
 --   tick_three                 what holds of the three ways in which a tick ends holds of it: the source overflows; 13; the work of the node chosen
-use Rattle.std.specs.Prelude.{◌≡◌, refl, Bool, true, false, cond, ◌&&◌, ℕ, zero, suc, ◌<◌, eqb}
+use Rattle.std.specs.Prelude.{◌≡◌, refl, Bool, true, false, cond, ◌&&◌, ℕ, zero, suc, eqb}
 use Rattle.std.proofs.Common.{sym, ap, ◌∙◌, arith, eqb-true}
 use Rattle.std.proofs.Math.Path.{subst}
 use Rattle.std.proofs.Math.Bool.{not}
@@ -10,7 +10,7 @@ use Rattle.std.proofs.lemmas.Bool.{eqb-false}
 use Rattle.chain.specs.Refusals.{Silent, Only, only_test, only_tab}
 use Rattle.chain.specs.declared.Refusal.{Refusal}
 use Rattle.chain.specs.declared.Chain.{Chain}
-use Rattle.state.specs.Fired.{fired, Over}
+use Rattle.state.specs.Fired.{fired}
 use Rattle.state.specs.Checks.{over}
 use Rattle.state.specs.declared.Run.{Run}
 use Rattle.deadline.specs.Deadline.{index_check}
@@ -18,7 +18,7 @@ use Rattle.instants.specs.Steps.{clean, overflowed, undated, onward, next, lacki
 use Rattle.instants.proofs.KeptLaws.{tick_begun}
 use Rattle.instants.specs.Filled.{Running}
 use Rattle.instants.proofs.FilledLaws.{running_filled, fired_running}
-use Rattle.instants.specs.Lacking.{Within, FirstLacking}
+use Rattle.instants.specs.Lacking.{FirstLacking}
 use Rattle.instants.proofs.LackingLaws.{within_is, lacking_exact, lacking_silent}
 use Rattle.instants.specs.declared.Ticked.{Ticked}
 use Rattle.instants.specs.Source.{Due, Full, Fits, SourceOnce}

@@ -24,16 +24,16 @@
 --   tick_ran, _refused         what a tick answers
 --   deadline_run_ran, _refused what a deadline run answers
 use Rattle.std.proofs.Math.Logic.Iff
-use Rattle.std.specs.Prelude.{◌≡◌, refl, ◌↔◌, ◌≢◌, ◌⊎◌, List, [], ◌∷◌, ◌++◌, ℕ, suc, ◌≤◌, ◌<◌, ◌+◌, get_or, take, ltb, leb, eqb}
+use Rattle.std.specs.Prelude.{◌≡◌, refl, ◌↔◌, ◌≢◌, List, [], ◌∷◌, ◌++◌, ℕ, suc, ◌≤◌, ◌<◌, get_or, take, ltb, leb, eqb}
 use Rattle.std.proofs.Math.Path.{sym, ap}
-use Rattle.std.proofs.Common.{◌∙◌, inr, ⊎_elim, ne_eqb}
+use Rattle.std.proofs.Common.{◌∙◌, ne_eqb}
 use native.Mathlib.Omega.{arith}
 use Rattle.std.proofs.lemmas.Bool.{eqb-false}
 use Rattle.words.specs.Table.{tab}
 use Rattle.chain.specs.Tests.{below_true, below_false, upto_true, upto_false, equal_true, sum_iff}
-use Rattle.chain.specs.Refusals.{refused, fine, first, or_else, first_append, first_last, first_fine, first_silent, Silent, Silents, Numbered, Others}
+use Rattle.chain.specs.Refusals.{refused, fine, first, or_else, first_append, first_last, first_fine, Silent, Silents, Numbered, Others}
 use Rattle.chain.proofs.RefusalsLaws.{exact_at}
-use Rattle.chain.specs.Refusals.{number_of, or_says, or_silents, silent_as, says_last, Lowest, lowest_is, Only, only_test, only_tab}
+use Rattle.chain.specs.Refusals.{or_says, or_silents, silent_as, says_last, Lowest, lowest_is, Only, only_test, only_tab}
 use Rattle.chain.specs.Refusals.{only_or, test_exact, test_silent, test_alone, all_silent, said_earlier, numbered_append}
 use Rattle.chain.specs.declared.Refusal.{Refusal}
 use Rattle.chain.specs.declared.Chain.{Chain}
@@ -47,10 +47,7 @@ use Rattle.state.proofs.ChecksLaws.{state_exact, state_silent, state_only}
 use Rattle.state.specs.declared.Run.{Run}
 use Rattle.instants.specs.Steps.{tick, instants}
 use Rattle.instants.specs.Checks.{longest, clock_check, spent_test, spent_check, tick_checks, length_check, deadline_run_checks}
-use Rattle.instants.specs.Checks.{tick_refusal, deadline_run_refusal, outcome_of, tick_answer, deadline_run_answer}
-use Rattle.instants.specs.declared.Outcome.TheVariants.{Clean}
-use Rattle.instants.specs.declared.Ticked.{Ticked}
-use Rattle.instants.specs.declared.TickAnswer.{TickAnswer}
+use Rattle.instants.specs.Checks.{tick_refusal, deadline_run_refusal, tick_answer, deadline_run_answer}
 use Rattle.instants.specs.Refusals.{FirstSpent, LateOrSpent, nine_check, said_behind, silents_row, own_numbers, tick_numbers, deadline_run_numbers, Ticking, ran_as, refused_as, outcome_refused, outcome_fine}
 
 -- 9 of the clock is said exactly when it is 1,000,000 or more, place 0

@@ -2,16 +2,12 @@
 --   ticks_none, ticks_suc      no tick, and one more
 --   instants_ticks             instants are the effect of a firing that is finished, and then ticks
 --   ticks_more, ticks_last     a+b ticks are a ticks, carried on for b, and so for one
-use Rattle.std.specs.Prelude.{◌≡◌, ◌⊎◌, ℕ, suc, ◌+◌}
+use Rattle.std.specs.Prelude.{◌≡◌, ℕ, suc, ◌+◌}
 use Rattle.std.proofs.Math.Path.{refl}
-use Rattle.std.proofs.Common.{ap, ◌∙◌, inl, inr, arith}
 use Rattle.chain.specs.declared.Chain.{Chain}
 use Rattle.state.specs.declared.Run.{Run}
-use Rattle.instants.specs.Steps.{kind_of, clean, goes, onward, finished, advanced, tick, ticks, instants}
-use Rattle.instants.specs.Follows.{Follows, Many, Instants, many_more, many_last, instants_many}
-use Rattle.instants.specs.declared.Outcome.{Outcome}
-use Rattle.instants.specs.declared.Outcome.TheVariants.{Clean, Overflowed, NoDeadline}
-use Rattle.instants.specs.declared.Ticked.{Ticked}
+use Rattle.instants.specs.Steps.{clean, onward, finished, advanced, tick, ticks, instants}
+use Rattle.instants.specs.Follows.{Many, Instants, many_more, many_last, instants_many}
 use Rattle.instants.specs.Runs.{follows}
 
 module _ (c : Chain) where

@@ -6,23 +6,21 @@
 --   once_fires, once_rests     a firing of the source that is due is that, and no change where it is not due
 --   source_only                and nothing else is
 use Rattle.std.proofs.Math.Logic.Iff
-use Rattle.std.specs.Prelude.{◌≡◌, Bool, cond, ◌↔◌, ◌≢◌, ℕ, zero, suc, ◌+◌, ◌%◌, ◌≤◌, ◌<◌}
+use Rattle.std.specs.Prelude.{◌≡◌, Bool, cond, ◌↔◌, ℕ, zero, suc, ◌%◌, ◌<◌}
 use Rattle.std.proofs.Math.Path.{refl}
 use Rattle.std.proofs.Common.{sym, ap, ◌∙◌, arith, ext_get_or}
 use Rattle.std.proofs.Math.Bool.{true, false, true≢false}
 use Rattle.std.specs.Int.{◌∣◌}
 use Rattle.std.proofs.Math.Nat.{dvd_iff_mod-eq-zero}
 use Rattle.chain.specs.Tests.{equal_true}
-use Rattle.chain.specs.Record.{row_of}
 use Rattle.chain.specs.declared.Chain.{Chain}
-use Rattle.sizing.specs.Sizes.{capacity_of}
 use Rattle.state.specs.State.{count_at, held_at, same_run}
 use Rattle.state.specs.Fired.{fired}
 use Rattle.state.proofs.FiredLaws.{count_fired, count_other, held_output, held_other}
 use Rattle.state.specs.Checks.{cramped}
 use Rattle.state.proofs.ChecksLaws.{cramped_is, cramped_room}
 use Rattle.state.specs.declared.Run.{Run}
-use Rattle.slots.specs.Runs.{Whole, fired_whole}
+use Rattle.slots.specs.Runs.{fired_whole}
 use Rattle.instants.specs.Steps.{clean, overflowed, divides, sourced}
 use Rattle.instants.specs.Filled.{Filled}
 use Rattle.instants.specs.Runs.{unclean_overflow}

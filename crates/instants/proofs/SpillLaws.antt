@@ -1,32 +1,25 @@
 -- An overflow at a finish never happens (01, Firing): from a state that passes 17, of a chain that passes 8, only the source can overflow.
 --   room_after_choice          so the node that works has room for what it produces
 --   finish_fits                and what a tick of work finishes is clean
-use Rattle.std.specs.Prelude.{◌≡◌, refl, Bool, false, cond, ℕ, zero, suc, ◌+◌, ◌-◌, ◌*◌, ◌≤◌, ◌<◌}
-use Rattle.std.proofs.Common.{sym, ap, subst, ◌∙◌, le_refl, le_trans, zero-lt-suc, div-lt_iff_lt-mul, arith}
+use Rattle.std.specs.Prelude.{◌≡◌, refl, Bool, false, cond, ℕ, zero, suc, ◌+◌, ◌<◌}
+use Rattle.std.proofs.Common.{sym, ap, subst, ◌∙◌, le_refl, zero-lt-suc, arith}
 use Rattle.std.proofs.Math.Logic.{by_cases}
-use Rattle.std.proofs.Math.Decide.{ℕ_discrete, dec_lt, dec_le}
-use Rattle.words.specs.declared.Queue.{Queue}
+use Rattle.std.proofs.Math.Decide.{ℕ_discrete}
 use Rattle.chain.specs.Refusals.{test_silent}
-use Rattle.chain.specs.Record.{row_of, work_of}
-use Rattle.chain.specs.Sound.{Sound}
+use Rattle.chain.specs.Record.{work_of}
 use Rattle.chain.specs.declared.Chain.{Chain}
-use Rattle.events.specs.Peak.{room}
-use Rattle.sizing.specs.Sizes.{capacity_of}
 use Rattle.sizing.specs.Checks.{Enough}
-use Rattle.sizing.proofs.ChecksLaws.{enough_capacity}
 use Rattle.sizing.specs.Accepted.{Accepted}
-use Rattle.state.specs.State.{count_at, held_at, done_at}
-use Rattle.state.specs.Fired.{Over, Room, Balance}
+use Rattle.state.specs.State.{done_at}
+use Rattle.state.specs.Fired.{Room}
 use Rattle.state.specs.Checks.{cramped, StateSound}
 use Rattle.state.proofs.ChecksLaws.{over_true, room_silent}
 use Rattle.state.specs.declared.Run.{Run}
-use Rattle.deadline.specs.Deadline.{earlier, deadline}
-use Rattle.deadline.proofs.DeadlineLaws.{deadline_mono}
 use Rattle.instants.proofs.BestLaws.{chosen_best}
 use Rattle.instants.proofs.KeptLaws.{finish_cases, chosen_low, worked_held, works_on, works_ends}
 use Rattle.instants.specs.Filled.{Running, cramped_as}
 use Rattle.instants.proofs.FilledLaws.{running_filled}
-use Rattle.instants.specs.Steps.{next, chosen, worked, finish, finished}
+use Rattle.instants.specs.Steps.{chosen, worked, finish, finished}
 use Rattle.instants.specs.declared.Outcome.TheVariants.{Clean}
 use Rattle.instants.specs.declared.Ticked.{Ticked}
 use Rattle.instants.specs.Spill.{room_before}

@@ -3,23 +3,17 @@
 --   tick_source, run_source    the source has fired T/y times, rounded up: once at each multiple of y below T; and so after each clean tick
 --   work_total, tick_total     a tick of work of the node that is chosen, and a clean tick, adds one tick of work where a node waits for it, and none elsewhere
 --   run_work                   so all work done in a run is one tick for each instant at which a node waited for it
-use Rattle.std.specs.Prelude.{◌≡◌, refl, ◌≢◌, ◌⊎◌, List, get_or}
-use Rattle.std.proofs.Common.{sym, ap, subst, ◌∙◌, inl, inr, ⊎_elim, le_refl, zero-lt-suc, add-one, arith}
-use Rattle.std.proofs.Math.Logic.{by_cases}
-use Prim.Native.Nat.{ℕ, zero, suc, ◌+◌, ◌*◌, ◌≤◌, ◌<◌, ◌∣◌}
-use Rattle.std.proofs.Math.Nat.{le_step}
-use Rattle.std.proofs.Math.Decide.{ℕ_discrete, dec_le, dec_dvd}
+use Rattle.std.specs.Prelude.{◌≡◌, ◌⊎◌}
+use Rattle.std.proofs.Common.{sym, ap, subst, ◌∙◌, inl, inr, ⊎_elim, le_refl, arith}
+use Prim.Native.Nat.{ℕ, suc, ◌+◌, ◌<◌, ◌∣◌}
 use Rattle.arith.specs.Division.{ceil}
-use Rattle.arith.proofs.DivisionLaws.{ceil_zero, ceil_multiple, ceil_between}
-use Rattle.chain.specs.Record.{row_of, work_of}
+use Rattle.arith.proofs.DivisionLaws.{ceil_zero}
 use Rattle.chain.specs.declared.Chain.{Chain}
-use Rattle.state.specs.State.{count_at, held_at, done_at, fresh_run, fresh_count}
-use Rattle.state.specs.Fired.{Over}
+use Rattle.state.specs.State.{count_at, fresh_count}
 use Rattle.state.specs.declared.Run.{Run}
 use Rattle.instants.specs.Checks.{deadline_run_answer}
-use Rattle.instants.specs.Source.{SourceOnce}
 use Rattle.instants.proofs.SourceLaws.{source_only}
-use Rattle.instants.specs.Once.{Works, WorkOnce, TickOnce}
+use Rattle.instants.specs.Once.{TickOnce}
 use Rattle.instants.proofs.OnceLaws.{once_counts, once_keeps}
 use Rattle.instants.specs.Answers.{CleanStep}
 use Rattle.instants.proofs.AnswersLaws.{run_may, at_clock, run_start, along}

@@ -2,26 +2,17 @@
 --   left a                     what an answer says of a tick: its outcome, and the state that it leaves
 --   Ends c T o, run_ends       a run of T ticks ends with o exactly where the run up to o's instant is clean and the tick from there ends with o
 --   CleanStep c t s u, along   what each clean tick hands on from s to u at instant t holds of a clean run
-use Rattle.std.proofs.Math.Logic.Iff
-use Rattle.std.specs.Prelude.{◌≡◌, refl, ◌↔◌, ℕ, zero, suc, ◌+◌, ◌-◌, ◌≤◌, ◌<◌}
-use Rattle.std.proofs.Common.{sym, ap, subst, ◌∙◌, ⊎_elim, le_refl, le_trans, add-zero, arith}
-use Rattle.chain.specs.Refusals.{Silent}
+use Rattle.std.specs.Prelude.{◌≡◌, ◌↔◌, ℕ, ◌<◌}
+use Rattle.std.proofs.Common.{sym, ap, ◌∙◌}
 use Rattle.chain.specs.declared.Chain.{Chain}
-use Rattle.sizing.specs.Checks.{Enough}
-use Rattle.sizing.specs.Accepted.{Accepted}
-use Rattle.state.specs.State.{fresh_run}
 use Rattle.state.specs.declared.Run.{Run}
-use Rattle.slots.specs.Runs.{Whole}
-use Rattle.instants.specs.Steps.{tick_of, clean, tick, ticks}
-use Rattle.instants.specs.Checks.{longest, tick_refusal, outcome_of, tick_answer, deadline_run_answer}
-use Rattle.instants.specs.Refusals.{Ticking, ran_as}
-use Rattle.instants.specs.Runs.{clean_or, onward_goes, onward_stops}
+use Rattle.instants.specs.Steps.{tick_of}
+use Rattle.instants.specs.Checks.{tick_answer, deadline_run_answer}
+use Rattle.instants.specs.Refusals.{ran_as}
 use Rattle.instants.specs.Filled.{Running}
-use Rattle.instants.specs.Fresh.{Paced}
 use Rattle.instants.specs.Once.{TickOnce}
-use Rattle.instants.specs.Exactly.{OneTick, TicksTo}
 use Rattle.instants.specs.declared.Outcome.{Outcome}
-use Rattle.instants.specs.declared.Outcome.TheVariants.{Clean, Overflowed, NoDeadline}
+use Rattle.instants.specs.declared.Outcome.TheVariants.{Clean}
 use Rattle.instants.specs.declared.Ticked.{Ticked}
 use Rattle.instants.specs.declared.TickAnswer.{TickAnswer}
 

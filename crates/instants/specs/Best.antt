@@ -3,15 +3,10 @@
 --   First due r j          N_r goes before N_j
 --   Best due able n r      of the nodes 1 to n, r is the one to choose; 0 where none is able
 --   best_unique            there is one best only
-use Rattle.std.specs.Prelude.{◌≡◌, refl, Bool, true, false, cond, ◌&&◌, ◌↔◌, ℕ, zero, suc, ◌+◌, ◌≤◌, ◌<◌}
-use Rattle.std.proofs.Common.{sym, ◌∙◌, true≢false, ⊎_elim, eq-or-lt_of_le, zero-lt-suc, le_antisymm, arith, leb-true, leb-false}
+use Rattle.std.specs.Prelude.{◌≡◌, Bool, true, ℕ, suc, ◌+◌, ◌≤◌, ◌<◌}
+use Rattle.std.proofs.Common.{sym, ◌∙◌, ⊎_elim, eq-or-lt_of_le, le_antisymm, arith}
 use Rattle.std.proofs.Math.Logic.{by_cases}
 use Rattle.std.proofs.Math.Decide.{dec_le}
-use Rattle.chain.specs.declared.Chain.{Chain}
-use Rattle.state.specs.Checks.{over}
-use Rattle.state.specs.declared.Run.{Run}
-use Rattle.deadline.specs.Deadline.{deadline}
-use Rattle.instants.specs.Steps.{next, as_early, choose, chosen}
 
 -- N_r is a node other than the source, is due no later than N_j, and is due before it where N_j is nearer the sink
 pub record First (due : ℕ → ℕ) (r j : ℕ) : Type 0 where

@@ -6,23 +6,15 @@
 --   OneTick c s x              one of them
 --   Then c s R                 R holds of the state that a clean tick of s leaves
 --   TicksTo c T s x            T ticks of s, as far as they are clean, end with x
-use Rattle.std.specs.Prelude.{◌≡◌, refl, ◌↔◌, ◌⊎◌}
-use Rattle.std.proofs.Common.{sym, ◌∙◌, arith}
-use Rattle.std.proofs.Math.Path.{ap, subst}
-use Rattle.std.proofs.Math.Logic.{inl, inr, ⊎_elim}
-use Prim.Native.Nat.{ℕ, zero, suc, ◌<◌}
+use Rattle.std.specs.Prelude.{◌≡◌, ◌⊎◌}
+use Prim.Native.Nat.{ℕ, zero, suc}
 use Rattle.chain.specs.declared.Chain.{Chain}
-use Rattle.sizing.specs.Checks.{Enough}
-use Rattle.sizing.specs.Accepted.{Accepted}
-use Rattle.state.specs.State.{fresh_run}
 use Rattle.state.specs.declared.Run.{Run}
-use Rattle.instants.specs.Steps.{tick_of, at_of, overflowed, undated, clean, onward, chosen, tick, ticks, instants}
-use Rattle.instants.specs.Runs.{unclean_overflow, unclean_undated, overflow_undated}
-use Rattle.instants.specs.Filled.{Running}
+use Rattle.instants.specs.Steps.{overflowed, undated, clean}
 use Rattle.instants.specs.Lacking.{FirstLacking}
 use Rattle.instants.specs.Source.{Due, Full, Fits, SourceOnce}
-use Rattle.instants.specs.Once.{Works, WorkOnce, work_only, TickOnce}
-use Rattle.instants.specs.declared.Outcome.TheVariants.{Clean, Overflowed, NoDeadline}
+use Rattle.instants.specs.Once.{TickOnce}
+use Rattle.instants.specs.declared.Outcome.TheVariants.{Clean}
 use Rattle.instants.specs.declared.Ticked.{Ticked}
 
 -- "overflowed": "the source fires if y divides t", and its production does not fit

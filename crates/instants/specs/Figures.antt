@@ -2,12 +2,12 @@
 --   feed, feed_working e B     the factory chain 0, and with execution time e and capacity B
 --   row r                      what is left: the outcome's number, the counts of source and sink, what is held, and the outcome's values
 --   late, late_run, late_tick  a node that the source's step brings over threshold, and whose deadline can't be had
-use Rattle.std.specs.Prelude.{◌≡◌, refl, List, [], ◌∷◌, ℕ}
+use Rattle.std.specs.Prelude.{List, [], ◌∷◌, ℕ}
 use Rattle.chain.specs.Factory.{queue, made, factory_answer}
 use Rattle.chain.specs.declared.Chain.{Chain}
-use Rattle.state.specs.State.{fresh_run, count_at, held_at}
+use Rattle.state.specs.State.{count_at, held_at}
 use Rattle.state.specs.declared.Run.{Run}
-use Rattle.instants.specs.Steps.{with_clock, tick, ticks, instants, number_of, values_of}
+use Rattle.instants.specs.Steps.{number_of, values_of}
 use Rattle.instants.specs.declared.Ticked.{Ticked}
 
 -- the factory chain 0

@@ -3,23 +3,17 @@
 --   Balanced c s               each queue holds what was put in less what was taken out
 --   Running c s                an accepted chain, and a state of it that passes 17
 --   cramped_as                 one with the same contents has the same room
-use Rattle.std.specs.Prelude.{◌≡◌, refl, ◌&&◌, List, ℕ, zero, suc, ◌+◌, ◌≤◌, ◌<◌, ltb, leb, length, get_or}
-use Rattle.std.proofs.Common.{sym, ap, subst, ◌∙◌, arith}
-use Rattle.std.proofs.Math.Logic.{by_cases}
-use Rattle.std.proofs.Math.Decide.{ℕ_discrete}
+use Rattle.std.specs.Prelude.{◌≡◌, ◌&&◌, List, ℕ, ◌+◌, ◌≤◌, ◌<◌, ltb, get_or}
+use Rattle.std.proofs.Common.{ap}
 use Rattle.chain.specs.Record.{row_of, work_of}
-use Rattle.chain.specs.Sound.{Sound}
 use Rattle.chain.specs.declared.Chain.{Chain}
 use Rattle.sizing.specs.Sizes.{capacity_of}
 use Rattle.sizing.specs.Accepted.{Accepted}
 use Rattle.state.specs.State.{held_at, done_at}
-use Rattle.state.specs.Fired.{fired, Over, Room, Slots, Balance, over_enough}
-use Rattle.state.proofs.FiredLaws.{held_output, held_input, held_other, balance_kept}
-use Rattle.state.specs.Checks.{over, cramped, StateSound}
+use Rattle.state.specs.Fired.{Balance}
+use Rattle.state.specs.Checks.{cramped, StateSound}
 use Rattle.state.specs.declared.Run.{Run}
-use Rattle.slots.specs.Runs.{Whole, fired_whole}
-use Rattle.deadline.specs.Deadline.{deadline}
-use Rattle.instants.specs.Steps.{lacking, choose, chosen}
+use Rattle.slots.specs.Runs.{Whole}
 
 -- what a step of a tick needs: an accepted chain, whole arrays, no queue above its capacity, and less work done of each node than its execution time
 pub record Filled (c : Chain) (s : Run) : Type 0 where

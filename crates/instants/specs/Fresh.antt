@@ -2,22 +2,12 @@
 --   InPace c s                 no node has fired more often than the clock has ticked
 --   fresh_in_pace, pace_kept   so it is at a fresh start, and after a tick in which each count grows by at most one
 --   Paced c s                  a state that passes 17, in which that is so
-use Rattle.std.specs.Prelude.{◌≡◌, refl, ℕ, zero, suc, ◌+◌, ◌≤◌, ◌<◌}
-use Rattle.std.proofs.Common.{sym, ◌∙◌, arith}
-use Rattle.std.proofs.Math.Path.{ap}
-use Rattle.chain.specs.Record.{work_of}
+use Rattle.std.specs.Prelude.{◌≡◌, ℕ, suc, ◌+◌, ◌≤◌}
+use Rattle.std.proofs.Common.{arith}
 use Rattle.chain.specs.declared.Chain.{Chain}
-use Rattle.sizing.specs.Accepted.{Accepted}
-use Rattle.state.specs.State.{count_at, done_at, fresh_run, fresh_empty, zeros, fresh_count, fresh_held}
+use Rattle.state.specs.State.{count_at, fresh_run, fresh_count}
 use Rattle.state.specs.declared.Run.{Run}
-use Rattle.slots.specs.Runs.{Whole}
-use Rattle.instants.specs.Checks.{longest}
-use Rattle.instants.specs.Steps.{clean, onward, finish, finished, ticks, instants, tick}
-use Rattle.instants.specs.Runs.{onward_clean, onward_cases}
-use Rattle.instants.specs.Kept.{Countable, TickStep}
 use Rattle.instants.specs.Filled.{Running}
-use Rattle.instants.specs.declared.Outcome.TheVariants.{Clean}
-use Rattle.instants.specs.declared.Ticked.{Ticked}
 
 -- no node has fired more often than the clock has ticked
 abbrev pub InPace : Chain → Run → Type 0

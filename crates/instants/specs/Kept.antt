@@ -4,34 +4,18 @@
 --   TickStep c s t             what a clean tick leaves; works_step, tick-step: it does; tick-running: a state that passes 17 where there was one
 --   fired_clock, _done         a firing changes neither clock nor work done
 --   Countable c s              no count is at the limit
-use Rattle.std.specs.Prelude.{◌≡◌, ◌≢◌, Bool, true, false, cond, List, eqb, length, get_or}
-use Rattle.std.proofs.Math.Path.{refl, ap}
-use Rattle.std.proofs.Common.{sym, subst, ◌∙◌, le_refl, arith, eqb-true, eq-eqb, le-leb}
-use Rattle.std.proofs.Math.Logic.{by_cases}
-use Prim.Native.Nat.{ℕ, zero, suc, ◌+◌, ◌≤◌, ◌<◌}
-use Rattle.std.proofs.Math.Nat.{le_step}
-use Rattle.std.proofs.Math.Decide.{ℕ_discrete}
-use Rattle.std.proofs.Math.ListN.{length-set}
-use Rattle.std.proofs.Math.Seq.{get_or-set_same, get_or-set_other}
-use Rattle.std.proofs.lemmas.Bool.{lt-leb}
-use Rattle.chain.specs.Refusals.{Silent, refused}
-use Rattle.chain.specs.Record.{work_of}
-use Rattle.chain.specs.declared.Refusal.{Refusal}
+use Rattle.std.specs.Prelude.{◌≡◌, ◌≢◌, false}
+use Rattle.std.proofs.Math.Path.{refl}
+use Rattle.std.proofs.Common.{arith}
+use Prim.Native.Nat.{ℕ, suc, ◌+◌, ◌≤◌, ◌<◌}
 use Rattle.chain.specs.declared.Chain.{Chain}
 use Rattle.sizing.specs.Checks.{limit}
-use Rattle.state.specs.State.{count_at, held_at, done_at}
-use Rattle.state.specs.Fired.{fired, Over, Room, May}
-use Rattle.state.proofs.FiredLaws.{count_fired, count_other, held_other}
-use Rattle.state.specs.Checks.{over, cramped}
-use Rattle.state.proofs.ChecksLaws.{over_true, cramped_room}
+use Rattle.state.specs.State.{count_at}
+use Rattle.state.specs.Fired.{fired, May}
+use Rattle.state.specs.Checks.{cramped}
+use Rattle.state.proofs.ChecksLaws.{cramped_room}
 use Rattle.state.specs.declared.Run.{Run}
-use Rattle.instants.specs.Runs.{unclean_overflow, unclean_undated, onward_goes, onward_stops, onward_cases, onward_then}
-use Rattle.instants.specs.Filled.{Filled, Balanced, Running}
-use Rattle.instants.specs.Filled.{cramped_as}
-use Rattle.instants.specs.Steps.{clean, overflowed, undated, onward, goes, divides, sourced, lacking, begun, chosen, worked, ended_in, ended, finish, finished, advanced, tick, with_done}
-use Rattle.instants.specs.declared.Outcome.{Outcome}
-use Rattle.instants.specs.declared.Outcome.TheVariants.{Clean, Overflowed, NoDeadline}
-use Rattle.instants.specs.declared.Ticked.{Ticked}
+use Rattle.instants.specs.Filled.{Filled, Balanced}
 
 -- the source may fire where its production fits
 pub source_may : (c : Chain) (s : Run) → count_at s 0 ≢ limit → cramped c s 0 ≡ false → May c s 0

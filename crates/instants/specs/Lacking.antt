@@ -1,23 +1,13 @@
 -- 13 of a tick and a run: when it is said (01, Firing).
 --   Within, Past c s i         no index on the way down from N_i's next firing to the source passes the limit, or one does
 --   FirstLacking               13 in words: the lowest such node
-use Rattle.std.proofs.Math.Logic.Iff
-use Rattle.std.specs.Prelude.{◌≡◌, refl, ◌↔◌, Bool, true, false, ◌&&◌, not, ℕ, zero, suc, ◌≤◌, ◌<◌, eqb}
-use Rattle.std.proofs.Common.{sym, ◌∙◌, true≢false, arith}
-use Rattle.std.proofs.Math.Logic.{by_cases}
-use Rattle.std.proofs.Math.Decide.{ℕ_discrete}
-use Rattle.chain.specs.Tests.{equal_true, and_true, negated_true, negated_false}
-use Rattle.chain.specs.Refusals.{refused, Silent, Lowest, lowest_is, all_silent, test_exact, test_silent}
+use Rattle.std.specs.Prelude.{ℕ, suc, ◌≤◌, ◌<◌}
 use Rattle.chain.specs.declared.Chain.{Chain}
 use Rattle.sizing.specs.Checks.{limit}
 use Rattle.state.specs.State.{count_at}
 use Rattle.state.specs.Fired.{Over}
-use Rattle.state.specs.Checks.{over}
-use Rattle.state.proofs.ChecksLaws.{over_true}
 use Rattle.state.specs.declared.Run.{Run}
-use Rattle.deadline.specs.Deadline.{index_check, index}
-use Rattle.deadline.proofs.DeadlineLaws.{index_exact, index_silent, index_only}
-use Rattle.instants.specs.Steps.{next, lacking_test, lacking}
+use Rattle.deadline.specs.Deadline.{index}
 
 -- "a deadline index passes 4,294,967,295": no index on the way down from N_i's next firing to the source does
 abbrev pub Within : Chain → Run → ℕ → Type 0

@@ -5,30 +5,21 @@
 --   work_once, work_only       what a tick of work leaves is that, and nothing else is
 --   TickOnce c s t             t is s after one clean tick
 --   work_source                a tick of work is none of the source's
-use Rattle.std.specs.Prelude.{◌≡◌, refl, ◌↔◌, ◌≢◌, List, ℕ, zero, suc, ◌+◌, ◌≤◌, ◌<◌, get_or}
-use Rattle.std.proofs.Common.{sym, ◌∙◌, zero-lt-suc, ext_get_or}
-use Rattle.std.proofs.Math.Path.{ap, subst}
+use Rattle.std.specs.Prelude.{◌≡◌, refl, ◌≢◌, List, ℕ, zero, suc, ◌+◌, ◌≤◌, ◌<◌, get_or}
+use Rattle.std.proofs.Common.{sym, ◌∙◌, ext_get_or}
+use Rattle.std.proofs.Math.Path.{ap}
 use Rattle.std.proofs.Math.Logic.{by_cases}
-use Rattle.std.proofs.Math.Decide.{ℕ_discrete, dec_lt, dec_dvd}
+use Rattle.std.proofs.Math.Decide.{ℕ_discrete, dec_lt}
 use native.Mathlib.Omega.{arith}
-use Rattle.std.proofs.Math.ListN.{length-set}
-use Rattle.std.proofs.Math.Seq.{get_or-set_same, get_or-set_other}
 use Rattle.chain.specs.Record.{row_of, work_of}
 use Rattle.chain.specs.declared.Chain.{Chain}
 use Rattle.state.specs.State.{count_at, held_at, done_at, same_run}
-use Rattle.state.specs.Fired.{fired, Over, over_enough}
-use Rattle.state.proofs.FiredLaws.{count_fired, count_other, held_output, held_input, held_other, held_sink}
-use Rattle.state.specs.Checks.{over}
-use Rattle.state.proofs.ChecksLaws.{over_true}
+use Rattle.state.specs.Fired.{fired, Over}
 use Rattle.state.specs.declared.Run.{Run}
-use Rattle.slots.specs.Runs.{Whole, fired_whole}
+use Rattle.slots.specs.Runs.{Whole}
 use Rattle.deadline.specs.Deadline.{deadline}
-use Rattle.instants.specs.Best.{Best}
-use Rattle.instants.specs.Steps.{chosen, with_done, next, worked, finish, finished}
+use Rattle.instants.specs.Steps.{with_done, worked}
 use Rattle.instants.specs.Filled.{Filled}
-use Rattle.instants.specs.Runs.{unclean_overflow}
-use Rattle.instants.specs.declared.Outcome.TheVariants.{Clean}
-use Rattle.instants.specs.declared.Ticked.{Ticked}
 use Rattle.instants.specs.Source.{Due, Fits, SourceOnce}
 use Rattle.instants.specs.Outcomes.{Dated}
 

@@ -9,30 +9,22 @@
 --   ran_as t, refused_as r s   the two forms of an answer
 --   outcome_refused, _fine     which the answer of a call has
 use Rattle.std.proofs.Math.Logic.Iff
-use Rattle.std.specs.Prelude.{◌≡◌, refl, ◌↔◌, ◌≢◌, ◌⊎◌, List, [], ◌∷◌, ◌++◌, ℕ, suc, ◌≤◌, ◌<◌, ◌+◌, get_or, take, ltb, leb, eqb}
-use Rattle.std.proofs.Math.Path.{sym, ap}
-use Rattle.std.proofs.Common.{◌∙◌, inr, ⊎_elim, ne_eqb}
+use Rattle.std.specs.Prelude.{◌≡◌, ◌↔◌, ◌≢◌, ◌⊎◌, List, [], ◌∷◌, ◌++◌, ℕ, ◌≤◌, ◌<◌}
+use Rattle.std.proofs.Math.Path.{sym}
+use Rattle.std.proofs.Common.{inr, ⊎_elim, ne_eqb}
 use native.Mathlib.Omega.{arith}
-use Rattle.std.proofs.lemmas.Bool.{eqb-false}
-use Rattle.words.specs.Table.{tab}
-use Rattle.chain.specs.Tests.{below_true, below_false, upto_true, upto_false, equal_true, sum_iff}
-use Rattle.chain.specs.Refusals.{refused, fine, first, or_else, first_append, first_last, first_fine, first_silent, Silent, Silents, Numbered, Others}
-use Rattle.chain.proofs.RefusalsLaws.{exact_at}
-use Rattle.chain.specs.Refusals.{number_of, or_says, or_silents, silent_as, says_last, Lowest, lowest_is, Only, only_test, only_tab}
-use Rattle.chain.specs.Refusals.{only_or, test_exact, test_silent, test_alone, all_silent, said_earlier, numbered_append}
+use Rattle.chain.specs.Refusals.{refused, fine, first, or_else, first_append, first_silent, Silent, Silents, Numbered, Others}
+use Rattle.chain.specs.Refusals.{number_of, or_says, or_silents}
+use Rattle.chain.specs.Refusals.{said_earlier}
 use Rattle.chain.specs.declared.Refusal.{Refusal}
 use Rattle.chain.specs.declared.Chain.{Chain}
-use Rattle.sizing.specs.Checks.{limit, Enough, run_checks, run_refusal, run_numbers}
-use Rattle.sizing.proofs.ChecksLaws.{run_numbered}
+use Rattle.sizing.specs.Checks.{limit, Enough, run_numbers}
 use Rattle.sizing.specs.Accepted.{Accepted}
-use Rattle.sizing.proofs.AcceptedLaws.{run_accepts}
-use Rattle.state.specs.State.{count_at, empty_run, fresh_run}
-use Rattle.state.specs.Checks.{state_check, FirstBroken, StateSound}
-use Rattle.state.proofs.ChecksLaws.{state_exact, state_silent, state_only}
+use Rattle.state.specs.State.{count_at}
+use Rattle.state.specs.Checks.{StateSound}
 use Rattle.state.specs.declared.Run.{Run}
-use Rattle.instants.specs.Steps.{tick, instants}
-use Rattle.instants.specs.Checks.{longest, clock_check, spent_test, spent_check, tick_checks, length_check, deadline_run_checks}
-use Rattle.instants.specs.Checks.{tick_refusal, deadline_run_refusal, outcome_of, tick_answer, deadline_run_answer}
+use Rattle.instants.specs.Checks.{longest, clock_check, spent_check}
+use Rattle.instants.specs.Checks.{outcome_of}
 use Rattle.instants.specs.declared.Outcome.TheVariants.{Clean}
 use Rattle.instants.specs.declared.Ticked.{Ticked}
 use Rattle.instants.specs.declared.TickAnswer.{TickAnswer}

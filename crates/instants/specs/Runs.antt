@@ -4,13 +4,12 @@
 --                              no outcome that ends a run is clean, and an overflow is not 13
 --   clean_or, onward_goes, onward_stops, onward_cases
 --                              an outcome is clean or not; what follows one that is, nothing follows one that is not, and what goes on was clean
-use Rattle.std.specs.Prelude.{◌≡◌, ◌⊎◌, ℕ, suc, ◌+◌}
+use Rattle.std.specs.Prelude.{◌≡◌, ◌⊎◌, ℕ}
 use Rattle.std.proofs.Math.Path.{refl}
 use Rattle.std.proofs.Common.{ap, ◌∙◌, inl, inr, arith}
-use Rattle.chain.specs.declared.Chain.{Chain}
 use Rattle.state.specs.declared.Run.{Run}
-use Rattle.instants.specs.Steps.{kind_of, clean, goes, onward, finished, advanced, tick, ticks, instants}
-use Rattle.instants.specs.Follows.{Follows, Many, Instants, many_more, many_last, instants_many}
+use Rattle.instants.specs.Steps.{kind_of, clean, goes, onward}
+use Rattle.instants.specs.Follows.{Follows}
 use Rattle.instants.specs.declared.Outcome.{Outcome}
 use Rattle.instants.specs.declared.Outcome.TheVariants.{Clean, Overflowed, NoDeadline}
 use Rattle.instants.specs.declared.Ticked.{Ticked}

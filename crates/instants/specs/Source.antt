@@ -2,28 +2,14 @@
 --   Due c s                    y divides the clock
 --   Full c s, Fits c s         what the source produces does not fit queue 0, or does
 --   SourceOnce c s u           u is s after the source's step, field by field
-use Rattle.std.proofs.Math.Logic.Iff
-use Rattle.std.specs.Prelude.{◌≡◌, Bool, cond, ◌↔◌, ◌≢◌, ℕ, zero, suc, ◌+◌, ◌%◌, ◌≤◌, ◌<◌}
-use Rattle.std.proofs.Math.Path.{refl}
-use Rattle.std.proofs.Common.{sym, ap, ◌∙◌, arith, ext_get_or}
-use Rattle.std.proofs.Math.Bool.{true, false, true≢false}
+use Rattle.std.specs.Prelude.{◌≡◌, ◌≢◌, ℕ, ◌+◌, ◌≤◌, ◌<◌}
 use Rattle.std.specs.Int.{◌∣◌}
-use Rattle.std.proofs.Math.Nat.{dvd_iff_mod-eq-zero}
-use Rattle.chain.specs.Tests.{equal_true}
 use Rattle.chain.specs.Record.{row_of}
 use Rattle.chain.specs.declared.Chain.{Chain}
 use Rattle.sizing.specs.Sizes.{capacity_of}
-use Rattle.state.specs.State.{count_at, held_at, same_run}
-use Rattle.state.specs.Fired.{fired}
-use Rattle.state.proofs.FiredLaws.{count_fired, count_other, held_output, held_other}
-use Rattle.state.specs.Checks.{cramped}
-use Rattle.state.proofs.ChecksLaws.{cramped_is, cramped_room}
+use Rattle.state.specs.State.{count_at, held_at}
 use Rattle.state.specs.declared.Run.{Run}
-use Rattle.slots.specs.Runs.{Whole, fired_whole}
-use Rattle.instants.specs.Steps.{clean, overflowed, divides, sourced}
-use Rattle.instants.specs.Filled.{Filled}
-use Rattle.instants.specs.Runs.{unclean_overflow}
-use Rattle.instants.specs.declared.Ticked.{Ticked}
+use Rattle.slots.specs.Runs.{Whole}
 
 -- "the source fires if y divides t"
 abbrev pub Due : Chain → Run → Type 0

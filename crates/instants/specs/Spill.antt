@@ -1,31 +1,24 @@
 -- An overflow at a finish never happens (01, Firing): from a state that passes 17, of a chain that passes 8, only the source can overflow.
 --   due_by                     where a production does not fit, its consumer's next firing is due by it
 --   room_before                a node that is due before the consumer of its output, where that is over threshold, has room
-use Rattle.std.specs.Prelude.{◌≡◌, refl, Bool, false, cond, ℕ, zero, suc, ◌+◌, ◌-◌, ◌*◌, ◌≤◌, ◌<◌}
-use Rattle.std.proofs.Common.{sym, ap, subst, ◌∙◌, le_refl, le_trans, zero-lt-suc, div-lt_iff_lt-mul, arith}
+use Rattle.std.specs.Prelude.{◌≡◌, ℕ, suc, ◌+◌, ◌-◌, ◌*◌, ◌≤◌, ◌<◌}
+use Rattle.std.proofs.Common.{le_trans, div-lt_iff_lt-mul, arith}
 use Rattle.std.proofs.Math.Logic.{by_cases}
-use Rattle.std.proofs.Math.Decide.{ℕ_discrete, dec_lt, dec_le}
+use Rattle.std.proofs.Math.Decide.{dec_lt, dec_le}
 use Rattle.words.specs.declared.Queue.{Queue}
-use Rattle.chain.specs.Refusals.{test_silent}
-use Rattle.chain.specs.Record.{row_of, work_of}
+use Rattle.chain.specs.Record.{row_of}
 use Rattle.chain.specs.Sound.{Sound}
 use Rattle.chain.specs.declared.Chain.{Chain}
 use Rattle.events.specs.Peak.{room}
 use Rattle.sizing.specs.Sizes.{capacity_of}
 use Rattle.sizing.specs.Checks.{Enough}
 use Rattle.sizing.proofs.ChecksLaws.{enough_capacity}
-use Rattle.sizing.specs.Accepted.{Accepted}
-use Rattle.state.specs.State.{count_at, held_at, done_at}
-use Rattle.state.specs.Fired.{Over, Room, Balance}
-use Rattle.state.specs.Checks.{cramped, StateSound}
-use Rattle.state.proofs.ChecksLaws.{over_true, room_silent}
+use Rattle.state.specs.State.{count_at, held_at}
+use Rattle.state.specs.Fired.{Over, Balance}
 use Rattle.state.specs.declared.Run.{Run}
 use Rattle.deadline.specs.Deadline.{earlier, deadline}
 use Rattle.deadline.proofs.DeadlineLaws.{deadline_mono}
-use Rattle.instants.specs.Filled.{Running, cramped_as}
-use Rattle.instants.specs.Steps.{next, chosen, worked, finish, finished}
-use Rattle.instants.specs.declared.Outcome.TheVariants.{Clean}
-use Rattle.instants.specs.declared.Ticked.{Ticked}
+use Rattle.instants.specs.Steps.{next}
 
 -- where production j, with m consumptions done, would pass the capacity, the consumer's next firing is due by it
 pub due_by : (q : Queue) (j m : ℕ) → 0 < q.produce → capacity_of q + q.consume * m < q.produce * j → earlier q (suc m) ≤ j

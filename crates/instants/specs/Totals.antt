@@ -21,18 +21,14 @@ use Prim.Native.Nat.{ℕ, zero, suc, ◌+◌, ◌*◌, ◌≤◌, ◌<◌, ◌�
 use Rattle.std.proofs.Math.Nat.{le_step}
 use Rattle.std.proofs.Math.Decide.{ℕ_discrete, dec_le, dec_dvd}
 use Rattle.arith.specs.Division.{ceil}
-use Rattle.arith.proofs.DivisionLaws.{ceil_zero, ceil_multiple, ceil_between}
+use Rattle.arith.proofs.DivisionLaws.{ceil_multiple, ceil_between}
 use Rattle.chain.specs.Record.{row_of, work_of}
 use Rattle.chain.specs.declared.Chain.{Chain}
 use Rattle.state.specs.State.{count_at, held_at, done_at, fresh_run, fresh_count}
 use Rattle.state.specs.Fired.{Over}
 use Rattle.state.specs.declared.Run.{Run}
-use Rattle.instants.specs.Checks.{deadline_run_answer}
 use Rattle.instants.specs.Source.{SourceOnce}
 use Rattle.instants.specs.Once.{Works, WorkOnce, TickOnce}
-use Rattle.instants.specs.Answers.{CleanStep}
-use Rattle.instants.specs.declared.Outcome.TheVariants.{Clean}
-use Rattle.instants.specs.declared.TickAnswer.{TickAnswer}
 
 -- "the source fires if y divides t": a count that is t/y, rounded up, and is one more after t exactly where y divides t, is that of t+1
 pub due_more : (y t a b : ℕ) → 0 < y → (y ∣ t → b ≡ a + 1) → ((y ∣ t → ⊥) → b ≡ a) → a ≡ ceil t y → b ≡ ceil (suc t) y

@@ -8,8 +8,7 @@ use Rattle.std.proofs.Common.{sym, ◌∙◌, inl, inr, arith}
 use Rattle.std.proofs.Math.Logic.{⊎_elim}
 use Rattle.words.specs.Table.{tab}
 use Rattle.chain.specs.Tests.{below_true, below_false, upto_true, upto_false}
-use Rattle.chain.specs.Refusals.{refused, test, first, or_else, Silent, lowest_is, all_silent, test_exact, test_silent, or_says, or_silents, Only, only_test, only_tab, only_or}
-use Rattle.chain.specs.declared.Refusal.{Refusal}
+use Rattle.chain.specs.Refusals.{refused, first, Silent, lowest_is, all_silent, test_exact, test_silent, or_says, or_silents, Only, only_test, only_tab, only_or}
 use Rattle.losses.specs.Losses.{longest_list, entry_at}
 use Rattle.losses.specs.declared.Losses.{Losses}
 use Rattle.losses.specs.Checks.{long_check, stray_test, stray_check, list_check, Stray, Named, LongOrStray}

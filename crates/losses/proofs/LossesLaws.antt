@@ -2,12 +2,9 @@
 --   is_noted, noted_slot, _slots, listed_noted, noted_entries
 --                              what `noted` makes is such a list, slot by slot, has 256 slots again, and has the entries before and then this one
 --   lost_append, lost_noted    the tokens of entries one after the other, and with one entry more
-use Rattle.std.specs.Prelude.{◌≡◌, refl, ◌≢◌, cond, List, [], ◌∷◌, ◌++◌, ℕ, zero, suc, ◌+◌, ◌≤◌, ◌<◌, eqb, length, get_or, set, replicate}
-use Rattle.std.proofs.Common.{sym, ap, ◌∙◌, arith, length-set, get_or-set_same, get_or-set_other, ext_get_or}
-use Rattle.std.proofs.Math.Logic.{by_cases}
-use Rattle.std.proofs.Math.Decide.{ℕ_discrete, dec_lt}
-use Rattle.std.proofs.lemmas.List.{length-replicate}
-use Rattle.words.specs.Table.{tab, tab_more, tab_alike}
+use Rattle.std.specs.Prelude.{◌≡◌, refl, ◌≢◌, cond, List, [], ◌∷◌, ◌++◌, ℕ, ◌+◌, ◌<◌, eqb, length, get_or}
+use Rattle.std.proofs.Common.{ap, ◌∙◌, arith, length-set, get_or-set_same, get_or-set_other}
+use Rattle.words.specs.Table.{tab_more, tab_alike}
 use Rattle.losses.specs.declared.Loss.{Loss}
 use Rattle.losses.specs.declared.Losses.{Losses}
 use Rattle.losses.specs.Losses.{loss, no_loss, entry_at, entries_in, noted, lost_in, lost, Listed, Noted, Extends}

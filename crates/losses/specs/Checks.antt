@@ -5,13 +5,9 @@
 --   list_check n l             both
 --   Stray, Named n l           one of the entries names no queue, or each names one
 --   LongOrStray n l            17 of the list in words
-use Rattle.std.proofs.Math.Logic.Iff
-use Rattle.std.specs.Prelude.{◌≡◌, ◌↔◌, ◌⊎◌, ℕ, ◌≤◌, ◌<◌, leb, ltb}
-use Rattle.std.proofs.Common.{sym, ◌∙◌, inl, inr, arith}
-use Rattle.std.proofs.Math.Logic.{⊎_elim}
+use Rattle.std.specs.Prelude.{◌⊎◌, ℕ, ◌≤◌, ◌<◌, leb, ltb}
 use Rattle.words.specs.Table.{tab}
-use Rattle.chain.specs.Tests.{below_true, below_false, upto_true, upto_false}
-use Rattle.chain.specs.Refusals.{refused, test, first, or_else, Silent, lowest_is, all_silent, test_exact, test_silent, or_says, or_silents, Only, only_test, only_tab, only_or}
+use Rattle.chain.specs.Refusals.{test, first, or_else}
 use Rattle.chain.specs.declared.Refusal.{Refusal}
 use Rattle.losses.specs.Losses.{longest_list, entry_at}
 use Rattle.losses.specs.declared.Losses.{Losses}

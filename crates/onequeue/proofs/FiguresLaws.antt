@@ -2,7 +2,7 @@
 --   least-figures                         the minimum and the naming count of queues (p,τ,c) that start empty
 --   started_figure                        a queue that starts with 1 token, (4,4,2): it holds 3 before the last production, and b is 7
 --   margin_figures                        Permeate with B 12 and 5: margins 2 and -1
-use Rattle.std.specs.Prelude.{◌≡◌, refl, List, [], ◌∷◌, ℤ, pos, negsuc, ℕ}
+use Rattle.std.specs.Prelude.{◌≡◌, refl, List, [], ◌∷◌, ℤ, pos, negsuc}
 use Rattle.onequeue.specs.Least.{least}
 use Rattle.onequeue.specs.Capacity.{capacity, margin}
 use Rattle.onequeue.specs.declared.Shown.{Shown}

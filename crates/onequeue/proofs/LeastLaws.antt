@@ -5,10 +5,10 @@
 --   minimum_rest        it is computed with one remainder
 --   naming_pos, _fits   the naming count is not 0, and at most τ
 use Rattle.std.specs.Prelude.{◌≡◌, refl, ◌↔◌, ℕ, ◌+◌, ◌-◌, ◌*◌, ◌/◌, ◌%◌, ◌≤◌, ◌<◌}
-use Rattle.std.proofs.Common.{sym, ◌∙◌, ap, ap₂, le_antisymm, zero-add, div-le_self, mul-le-mul_right, arith}
+use Rattle.std.proofs.Common.{sym, ◌∙◌, ap, ap₂, zero-add, div-le_self, mul-le-mul_right, arith}
 use Rattle.std.proofs.Math.Nat.{sub-zero, eq_of_mul-eq-mul_left}
 use Rattle.arith.specs.Division.{ceil}
-use Rattle.arith.proofs.DivisionLaws.{ceil_above, ceil_least}
+use Rattle.arith.proofs.DivisionLaws.{ceil_least}
 use Rattle.arith.specs.Gcd.{gcd, gcd_pos_left, gcd_le_left, gcd_mul_right, cofactor_pos}
 use Rattle.onequeue.specs.Residue.{residue, Largest, largest_unique, largest_next}
 use Rattle.onequeue.proofs.ResidueLaws.{residue_largest, residue_rest}

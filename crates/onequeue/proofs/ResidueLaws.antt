@@ -4,10 +4,9 @@
 --   residue_floor       the residue at s = 0 with a division rounded down
 --   residue_rest        the residue by one remainder
 use Rattle.std.specs.Prelude.{◌≡◌, ◌≢◌, ℕ, zero, suc, ◌+◌, ◌-◌, ◌*◌, ◌/◌, ◌%◌, ◌≤◌, ◌<◌}
-use Rattle.std.proofs.Common.{sym, ◌∙◌, ap, ⊎_elim, le_antisymm, lt_of_not-le, eq-or-lt_of_le, zero-lt-suc, zero-add, mul_comm, div-mul-le_self, div-add-mod', arith}
-use Rattle.std.proofs.Math.Nat.{sub-zero, mod-zero, lt-div-mul-add, add-mul-mod_self_right}
-use Rattle.std.proofs.Math.Decide.{dec_le}
-use Rattle.arith.specs.Division.{ceil, floor_below, floor_above, rest_of_sum, same_rest_gap}
+use Rattle.std.proofs.Common.{sym, ◌∙◌, ap, ⊎_elim, eq-or-lt_of_le, zero-lt-suc, zero-add, mul_comm, div-mul-le_self, div-add-mod', arith}
+use Rattle.std.proofs.Math.Nat.{sub-zero, mod-zero, lt-div-mul-add}
+use Rattle.arith.specs.Division.{ceil, floor_below, floor_above}
 use Rattle.arith.proofs.DivisionLaws.{ceil_unique}
 use Rattle.onequeue.specs.Residue.{residue, Largest, largest_near, ceil_less, less_one}
 

@@ -3,10 +3,8 @@
 --   capacity B b        the capacity in force: B, or b where B is 0
 --   margin k b          k - b, with its sign
 --   Within k b          what the code is handed: a capacity and a minimum up to a million
-use Rattle.std.specs.Prelude.{◌≡◌, refl, Bool, true, false, cond, ◌↔◌, ◌≢◌, ℕ, suc, ◌-◌, ◌≤◌, ◌<◌, ltb, eqb, ℤ, pos, negsuc, neg_ℤ, ◌+ℤ◌}
-use Rattle.std.proofs.Common.{ap, le_refl, arith, lt-ltb, le-ltb, ltb-true, ltb-false, ne_eqb}
+use Rattle.std.specs.Prelude.{cond, ℕ, ◌≤◌, eqb, ℤ}
 use Rattle.std.proofs.Math.IntN.{sub_ℕ}
-use Rattle.std.specs.Int.Signed.{lt_z}
 
 -- 01's "with B=0 the capacity is b"
 unfoldable pub capacity : ℕ → ℕ → ℕ

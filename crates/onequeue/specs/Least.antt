@@ -4,13 +4,12 @@
 --   Reaches s p τ c q   q firings of the producer, and no fewer, bring the contents from s to τ - c or more; reaches: there is such a q
 --   IsLeast s p τ c m   both in words: the minimum is r + p for the r that `Largest` describes, the naming count q + w for the q that `Reaches` does and
 --                       the w with gcd p c * w = c
-use Rattle.std.specs.Prelude.{◌≡◌, refl, ◌↔◌, ℕ, ◌+◌, ◌-◌, ◌*◌, ◌/◌, ◌%◌, ◌≤◌, ◌<◌}
-use Rattle.std.proofs.Common.{sym, ◌∙◌, ap, ap₂, le_antisymm, zero-add, div-le_self, mul-le-mul_right, arith}
-use Rattle.std.proofs.Math.Nat.{sub-zero, eq_of_mul-eq-mul_left}
+use Rattle.std.specs.Prelude.{◌≡◌, ℕ, ◌+◌, ◌-◌, ◌*◌, ◌/◌, ◌≤◌, ◌<◌}
+use Rattle.std.proofs.Common.{le_antisymm, arith}
 use Rattle.arith.specs.Division.{ceil}
 use Rattle.arith.proofs.DivisionLaws.{ceil_above, ceil_least}
-use Rattle.arith.specs.Gcd.{gcd, gcd_pos_left, gcd_le_left, gcd_mul_right, cofactor_pos}
-use Rattle.onequeue.specs.Residue.{residue, Largest, largest_unique, largest_next}
+use Rattle.arith.specs.Gcd.{gcd}
+use Rattle.onequeue.specs.Residue.{residue, Largest}
 use Rattle.onequeue.specs.declared.Shown.{Shown}
 
 -- 01's "minimum b of a queue: with g = gcd(p,c), the largest multiple of g below τ, plus p", and its "naming count of demand 3: (τ−c)/p rounded up,

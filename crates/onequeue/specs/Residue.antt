@@ -5,9 +5,9 @@
 --   largest_unique      there is one such number at most
 --   largest_next        one step of g more reaches τ
 --   largest_near        and a number on the way from s that is below τ, but not so with one step more, is the largest
-use Rattle.std.specs.Prelude.{◌≡◌, ◌≢◌, ℕ, zero, suc, ◌+◌, ◌-◌, ◌*◌, ◌/◌, ◌%◌, ◌≤◌, ◌<◌}
-use Rattle.std.proofs.Common.{sym, ◌∙◌, ap, ⊎_elim, le_antisymm, lt_of_not-le, eq-or-lt_of_le, zero-lt-suc, zero-add, mul_comm, div-mul-le_self, div-add-mod', arith}
-use Rattle.std.proofs.Math.Nat.{sub-zero, mod-zero, lt-div-mul-add, add-mul-mod_self_right}
+use Rattle.std.specs.Prelude.{◌≡◌, ℕ, zero, suc, ◌+◌, ◌-◌, ◌*◌, ◌/◌, ◌%◌, ◌≤◌, ◌<◌}
+use Rattle.std.proofs.Common.{sym, ◌∙◌, le_antisymm, lt_of_not-le, arith}
+use Rattle.std.proofs.Math.Nat.{add-mul-mod_self_right}
 use Rattle.std.proofs.Math.Decide.{dec_le}
 use Rattle.arith.specs.Division.{ceil, floor_below, floor_above, rest_of_sum, same_rest_gap}
 use Rattle.arith.proofs.DivisionLaws.{ceil_unique}

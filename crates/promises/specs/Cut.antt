@@ -3,7 +3,7 @@
 --   cut b t             the pieces of t between its bytes b
 --   cut_one, cut_more   what characterises them: a text without b is one piece; what stands before the first b is a piece, and the others are those of the rest
 --   cut_same            texts of the same pieces are the same text
-use Rattle.std.specs.Prelude.{◌≡◌, refl, cond, ◌≢◌, List, [], ◌∷◌, ◌++◌, ℕ, ◌+◌, eqb, drop}
+use Rattle.std.specs.Prelude.{◌≡◌, refl, cond, ◌≢◌, List, [], ◌∷◌, ◌++◌, ℕ, eqb, drop}
 use Rattle.std.proofs.Common.{sym, ap, ◌∙◌, arith, eq-eqb, ne_eqb}
 use Rattle.std.proofs.Math.Logic.{by_cases}
 use Rattle.std.proofs.Math.Decide.{ℕ_discrete}

@@ -12,12 +12,8 @@ use Rattle.std.proofs.Math.Path.{refl, sym, ap}
 use Rattle.std.proofs.Common.{◌∙◌, mul-pos, mul-one, arith}
 use Rattle.std.specs.Int.{◌∣◌}
 use Rattle.std.proofs.Math.Nat.{div-le_self, div-div-eq-div-mul, dvd-mul_left, dvd_of_mul-dvd-mul_left, le_of_dvd, eq_of_mul-eq-mul_left}
-use Rattle.arith.specs.Division.{floor_unique}
 use Rattle.arith.specs.Gcd.{gcd, gcd_pos_right, gcd_mul_left, gcd_mul_right, gcd_greatest, cofactor_pos}
 use Rattle.arith.specs.Products.{gcd_scale, gcd_product}
-use Rattle.onequeue.specs.Known.{Known}
-use Rattle.onequeue.specs.declared.Row.{Row}
-use Rattle.rates.specs.declared.Rate.{Rate}
 use Rattle.rates.specs.Rates.{common, next_x, next_y, stretch, rate_after, exact}
 
 -- Permeate's second node has 6 per 15 (P2); g from p and c alone would give it 12 per 30

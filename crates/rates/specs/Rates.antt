@@ -6,14 +6,10 @@
 --   stretch p c x            how many times y the new y is
 --   rate_after p c x y       the three together, as code has them
 --   Step q x                 what the code of a step asks
-use Rattle.std.specs.Prelude.{◌≡◌, ℕ, ◌*◌, ◌/◌, ◌≤◌, ◌<◌}
-use Rattle.std.proofs.Math.Path.{refl, sym, ap}
-use Rattle.std.proofs.Common.{◌∙◌, mul-pos, mul-one, arith}
-use Rattle.std.specs.Int.{◌∣◌}
-use Rattle.std.proofs.Math.Nat.{div-le_self, div-div-eq-div-mul, dvd-mul_left, dvd_of_mul-dvd-mul_left, le_of_dvd, eq_of_mul-eq-mul_left}
+use Rattle.std.specs.Prelude.{◌≡◌, ℕ, ◌*◌, ◌/◌, ◌<◌}
+use Rattle.std.proofs.Common.{arith}
 use Rattle.arith.specs.Division.{floor_unique}
-use Rattle.arith.specs.Gcd.{gcd, gcd_pos_right, gcd_mul_left, gcd_mul_right, gcd_greatest, cofactor_pos}
-use Rattle.arith.specs.Products.{gcd_scale, gcd_product}
+use Rattle.arith.specs.Gcd.{gcd}
 use Rattle.onequeue.specs.Known.{Known}
 use Rattle.onequeue.specs.declared.Row.{Row}
 use Rattle.rates.specs.declared.Rate.{Rate}

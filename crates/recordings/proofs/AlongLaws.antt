@@ -15,7 +15,7 @@
 --   rec_ticks_answer           T ticks within the limit answer what T ticks leave
 --   rec_run_by_ticks           so the run of T ticks answers what they do
 use Rattle.std.proofs.Math.Logic.Iff
-use Rattle.std.specs.Prelude.{◌≡◌, refl, ◌↔◌, ℕ, zero, suc, ◌+◌, ◌-◌, ◌≤◌, ◌<◌, length}
+use Rattle.std.specs.Prelude.{◌≡◌, refl, ◌↔◌, ℕ, zero, suc, ◌+◌, ◌≤◌, ◌<◌, length}
 use Rattle.std.proofs.Common.{sym, ap, subst, ◌∙◌, ⊎_elim, le_refl, le_trans, arith}
 use Rattle.chain.specs.Refusals.{Silent}
 use Rattle.chain.specs.declared.Chain.{Chain}
@@ -27,7 +27,7 @@ use Rattle.instants.specs.Checks.{longest}
 use Rattle.instants.specs.Follows.{Answered, answered_stays, answered_before, answered_ends, answered_along}
 use Rattle.losses.specs.Losses.{empty_losses, listed_of}
 use Rattle.losses.specs.declared.Losses.{Losses}
-use Rattle.recordings.specs.Steps.{rec_clean, rec_goes, rec_onward, rec_tick, rec_ticks}
+use Rattle.recordings.specs.Steps.{rec_clean, rec_tick, rec_ticks}
 use Rattle.recordings.proofs.RunsLaws.{rec_clean_or, rec_onward_goes, rec_onward_stops, rec_ticks_none, rec_ticks_last, rec_run_is_ticks}
 use Rattle.recordings.proofs.GrowingLaws.{tick_clock}
 use Rattle.recordings.specs.Checks.{Recording, recording_filled, fresh_recording}

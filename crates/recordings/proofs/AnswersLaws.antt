@@ -3,23 +3,11 @@
 --   late_long                  17 of the list is said before 9 of the clock
 --   late_short, late_list      with a list that passes it is 9, and the list is given back as it was, with no loss of that tick
 --   due_list                   two ticks earlier it is not refused, and the loss is noted
-use Rattle.std.specs.Prelude.{◌≡◌, refl, cond, List, [], ◌∷◌, ◌++◌, ℕ, eqb, replicate}
-use Rattle.chain.specs.Refusals.{refused, fine, first}
-use Rattle.chain.specs.declared.Refusal.{Refusal}
-use Rattle.chain.specs.declared.Chain.{Chain}
-use Rattle.sizing.specs.Checks.{analyse_checks, analyse_refusal}
-use Rattle.state.specs.State.{empty_run, fresh_run}
-use Rattle.state.specs.declared.Run.{Run}
-use Rattle.instants.specs.Checks.{clock_check, spent_check, length_check}
+use Rattle.std.specs.Prelude.{◌≡◌, refl}
+use Rattle.chain.specs.Refusals.{refused, fine}
+use Rattle.state.specs.State.{fresh_run}
 use Rattle.losses.specs.Losses.{loss, empty_losses, entry_at}
-use Rattle.losses.specs.declared.Losses.{Losses}
-use Rattle.recordings.specs.Steps.{rec_tick, rec_instants}
-use Rattle.recordings.specs.Checks.{rec_state_check}
-use Rattle.recordings.specs.Traced.{rec_run}
 use Rattle.recordings.specs.Figures.{shallow}
-use Rattle.recordings.specs.declared.RecordOutcome.TheVariants.{Clean}
-use Rattle.recordings.specs.declared.Recorded.{Recorded}
-use Rattle.recordings.specs.declared.RecordAnswer.{RecordAnswer}
 use Rattle.recordings.specs.Answers.{rec_tick_refusal, rec_tick_answer, rec_run_answer, late_run, long_list}
 
 -- "old skids' capacities below the minimum are allowed"

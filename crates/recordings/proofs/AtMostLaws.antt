@@ -21,7 +21,7 @@ use Rattle.recordings.proofs.RunsLaws.{rec_clean_or, rec_unclean_full, rec_full_
 use Rattle.recordings.proofs.CasesLaws.{source_four, work_four, rec_begun_cases, rec_tick_begun, rec_tick_ends, rec_tick_works}
 use Rattle.recordings.proofs.KeptLaws.{clean_room, begun_leads}
 use Rattle.recordings.proofs.BesideLaws.{recorded_clean, recorded_undated, recorded_lost}
-use Rattle.recordings.specs.declared.RecordOutcome.TheVariants.{Clean, NoDeadline, ListFull}
+use Rattle.recordings.specs.declared.RecordOutcome.TheVariants.{Clean, ListFull}
 use Rattle.recordings.specs.declared.Recorded.{Recorded}
 use Rattle.recordings.specs.AtMost.{Within, Same}
 

@@ -25,14 +25,13 @@ use Rattle.instants.specs.Steps.{clean, overflowed, with_done, undated, onward, 
 use Rattle.instants.specs.Steps.{tick_of, at_of}
 use Rattle.instants.specs.Runs.{unclean_overflow, overflow_undated, clean_or, onward_goes, onward_stops}
 use Rattle.instants.proofs.RunsLaws.{ticks_none, ticks_suc, instants_ticks}
-use Rattle.instants.proofs.KeptLaws.{source_cases, begun_clean, begun_over, chosen_low, chosen_over, tick_begun, tick_ends, tick_step}
+use Rattle.instants.proofs.KeptLaws.{chosen_low, chosen_over, tick_begun, tick_step}
 use Rattle.instants.specs.Filled.{Filled}
 use Rattle.instants.specs.declared.Outcome.{Outcome}
 use Rattle.instants.specs.declared.Outcome.TheVariants as plain
 use Rattle.instants.specs.declared.Ticked.{Ticked}
 use Rattle.traces.specs.Trace.{source_entry}
-use Rattle.losses.specs.Losses.{loss, entry_at, noted, Listed, Extends}
-use Rattle.losses.proofs.LossesLaws.{is_noted}
+use Rattle.losses.specs.Losses.{noted, Listed}
 use Rattle.losses.specs.declared.Losses.{Losses}
 use Rattle.recordings.specs.Steps.{rec_clean, rec_undated, rec_full, rec_onward, dropped, lost_firing, recorded, rec_sourced, rec_begun, rec_finished, rec_tick, rec_ticks, rec_instants}
 use Rattle.recordings.proofs.RunsLaws.{rec_instants_ticks, rec_clean_or, rec_unclean_undated, rec_unclean_full, rec_onward_elim, rec_onward_goes, rec_onward_stops, rec_ticks_none, rec_ticks_suc}
@@ -40,7 +39,7 @@ use Rattle.recordings.proofs.CasesLaws.{loss_cases, rec_begun_cases, rec_tick_be
 use Rattle.recordings.specs.Kept.{Led}
 use Rattle.recordings.proofs.KeptLaws.{clean_room, begun_leads, work_leads, tick_leads, ticks_lead}
 use Rattle.recordings.specs.Trace.{marked, rec_tracing}
-use Rattle.recordings.specs.declared.RecordOutcome.TheVariants.{Clean, NoDeadline}
+use Rattle.recordings.specs.declared.RecordOutcome.TheVariants.{Clean}
 use Rattle.recordings.specs.declared.Recorded.{Recorded}
 use Rattle.recordings.specs.Beside.{begun_spills, spilled, tick_spilled, TakenBack, NextLoss, next_goes, next_noted, TakenBackThen}
 

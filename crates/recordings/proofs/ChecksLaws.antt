@@ -9,27 +9,21 @@
 --                              a tick that does not find the list full leaves one, and so do so many
 use Rattle.std.proofs.Math.Logic.Iff
 use Rattle.std.specs.Prelude.{◌≡◌, ◌↔◌, ◌⊎◌, List, ℕ, suc, ◌+◌, ◌*◌, ◌≤◌, ◌<◌, get_or, eqb, leb, ltb}
-use Rattle.std.proofs.Common.{sym, ap, ap₂, ◌∙◌, ⊎_elim, add-zero, arith, eq-eqb}
+use Rattle.std.proofs.Common.{ap, ap₂, ◌∙◌, ⊎_elim, arith, eq-eqb}
 use Rattle.words.specs.Table.{tab, tab_alike}
 use Rattle.chain.specs.Tests.{sum_iff}
 use Rattle.chain.specs.Refusals.{refused, fine, test, first, or_else, Silent, first_fine, or_says, or_silents, Only, only_or}
 use Rattle.chain.specs.Record.{row_of, work_of}
-use Rattle.chain.specs.declared.Refusal.{Refusal}
 use Rattle.chain.specs.declared.Chain.{Chain}
-use Rattle.onequeue.specs.Capacity.{capacity}
-use Rattle.onequeue.specs.Least.{least}
 use Rattle.sizing.specs.Sizes.{start, capacity_of}
-use Rattle.sizing.specs.Accepted.{Accepted}
-use Rattle.state.specs.State.{fresh_run, count_at, held_at, done_at}
-use Rattle.state.specs.Fired.{supplied, accounted, BalanceWith}
+use Rattle.state.specs.State.{count_at, held_at, done_at}
+use Rattle.state.specs.Fired.{supplied, accounted}
 use Rattle.state.specs.Checks.{broken_unless, queue_test}
 use Rattle.state.proofs.ChecksLaws.{queues_exact, queues_silent, queues_only}
 use Rattle.state.specs.declared.Run.{Run}
-use Rattle.slots.specs.Runs.{Whole}
 use Rattle.instants.specs.Filled.{Filled}
-use Rattle.instants.proofs.FilledLaws.{filled_slots, running_filled}
-use Rattle.instants.proofs.FreshLaws.{fresh_running}
-use Rattle.losses.specs.Losses.{longest_list, empty_losses, entry_at, lost_in, lost, Listed, listed_empty}
+use Rattle.instants.proofs.FilledLaws.{filled_slots}
+use Rattle.losses.specs.Losses.{longest_list, entry_at, lost}
 use Rattle.losses.specs.Checks.{stray_test, stray_check, list_check, LongOrStray, Named}
 use Rattle.losses.proofs.ChecksLaws.{list_exact, list_silent, list_only}
 use Rattle.losses.specs.declared.Losses.{Losses}

@@ -30,17 +30,17 @@ use Rattle.instants.specs.Filled.{Filled}
 use Rattle.instants.specs.Source.{Due}
 use Rattle.instants.specs.Lacking.{FirstLacking}
 use Rattle.instants.specs.Outcomes.{Dated}
-use Rattle.instants.proofs.OutcomesLaws.{lacking_once, lacking_dated, lacking_found, dated_of_law}
+use Rattle.instants.proofs.OutcomesLaws.{lacking_dated, lacking_found, dated_of_law}
 use Rattle.instants.specs.Once.{Works}
 use Rattle.instants.proofs.OnceLaws.{works_is}
 use Rattle.instants.proofs.KeptLaws.{worked_clock}
 use Rattle.losses.specs.Losses.{Listed}
 use Rattle.losses.specs.declared.Losses.{Losses}
-use Rattle.recordings.specs.Steps.{rec_tick_of, rec_at_of, rec_clean, rec_undated, rec_full, rec_onward, rec_sourced, rec_finished, rec_tick, rec_ticks}
+use Rattle.recordings.specs.Steps.{rec_tick_of, rec_at_of, rec_undated, rec_full, rec_onward, rec_sourced, rec_finished, rec_tick, rec_ticks}
 use Rattle.recordings.proofs.RunsLaws.{rec_unclean_undated, rec_unclean_full, rec_full_undated, rec_clean_or, rec_onward_elim, rec_ticks_none, rec_ticks_suc}
 use Rattle.recordings.proofs.CasesLaws.{source_four, work_four, rec_begun_cases, rec_tick_begun}
 use Rattle.recordings.proofs.KeptLaws.{clean_room, source_leads, tick_leads}
-use Rattle.recordings.specs.Once.{SourceNoted, source_noted_only, WorkNoted, work_noted_only, WorkFull, work_full_only}
+use Rattle.recordings.specs.Once.{source_noted_only, WorkFull}
 use Rattle.recordings.proofs.OnceLaws.{source_noted, work_noted, work_full}
 use Rattle.recordings.specs.declared.RecordOutcome.{RecordOutcome}
 use Rattle.recordings.specs.declared.RecordOutcome.TheVariants.{Clean, NoDeadline, ListFull}

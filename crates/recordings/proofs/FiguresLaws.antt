@@ -9,24 +9,15 @@
 --   steep_overflows, steep_taken_back
 --                              as a deadline tick it overflows, and as a recording tick 13 ends it, taking back the source's loss
 --   steep_row                  which is said with its number, tick and node
-use Rattle.std.specs.Prelude.{◌≡◌, refl, List, [], ◌∷◌, true, false, ℕ, replicate}
+use Rattle.std.specs.Prelude.{◌≡◌, refl, [], ◌∷◌, true, false}
 use Rattle.words.specs.Table.{tab}
 use Rattle.chain.specs.Refusals.{refused}
-use Rattle.chain.specs.Factory.{queue, made}
-use Rattle.chain.specs.declared.Chain.{Chain}
-use Rattle.sizing.specs.Checks.{analyse_refusal}
-use Rattle.sizing.specs.Accepted.{Accepted}
-use Rattle.sizing.proofs.AcceptedLaws.{analyse_accepts}
-use Rattle.state.specs.State.{fresh_run, count_at, held_at, done_at}
-use Rattle.state.specs.declared.Run.{Run}
+use Rattle.state.specs.State.{fresh_run}
 use Rattle.instants.specs.Figures.{feed_working}
-use Rattle.instants.specs.Steps.{overflowed, tick}
 use Rattle.losses.specs.Losses.{empty_losses, loss, entry_at, entries_in}
-use Rattle.losses.specs.declared.Losses.{Losses}
-use Rattle.recordings.specs.Steps.{rec_number_of, rec_values_of, rec_undated, rec_tick, rec_ticks, rec_instants}
+use Rattle.recordings.specs.Steps.{rec_undated, rec_tick, rec_ticks, rec_instants}
 use Rattle.recordings.specs.Trace.{rec_trace}
 use Rattle.recordings.specs.Checks.{rec_state_check}
-use Rattle.recordings.specs.declared.Recorded.{Recorded}
 use Rattle.recordings.specs.Figures.{rec_row, shallow, two, two_row, both, both_run, both255, steep, steep_run}
 
 -- Feed with e=7 and B=10, to tick 90

@@ -28,8 +28,7 @@ use Rattle.recordings.specs.Marked.{Marked}
 use Rattle.recordings.specs.Trace.{marked, rec_tracing, rec_finish_trace, rec_tick_trace, rec_trace}
 use Rattle.recordings.specs.Kept.{rec_tracing_clean, rec_tracing_none}
 use Rattle.recordings.proofs.KeptLaws.{clean_room, begun_leads, rec_tick_firings, rec_tick_firings_none, tick_leads, ticks_lead}
-use Rattle.recordings.specs.declared.RecordOutcome.{RecordOutcome}
-use Rattle.recordings.specs.declared.RecordOutcome.TheVariants.{Clean, NoDeadline, ListFull}
+use Rattle.recordings.specs.declared.RecordOutcome.TheVariants.{Clean}
 use Rattle.recordings.specs.declared.Recorded.{Recorded}
 use Rattle.recordings.specs.Growing.{EachAt, Grows, at_append, at_tracing, next_firings, at_each}
 

@@ -6,7 +6,7 @@
 --   tick_leads, ticks_lead     one tick, and so many, whatever their outcome
 --   trace_fair, _after, _entries, _rising
 --                              the same said of the firings themselves
-use Rattle.std.specs.Prelude.{◌≡◌, ◌≢◌, Bool, cond}
+use Rattle.std.specs.Prelude.{◌≡◌, Bool, cond}
 use Rattle.std.proofs.Math.Path.{refl, ap, ap₂, subst}
 use Rattle.std.proofs.Common.{sym, ◌∙◌, true≢false, le_refl, arith}
 use Rattle.std.proofs.Math.Logic.{⊎_elim}

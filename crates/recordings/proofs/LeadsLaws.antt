@@ -3,7 +3,7 @@
 --                              no firing, one that fits, one that is lost, and one history after the other
 --   leads_balance              so the balance with what the list has lost is kept
 --   leads_within               and no queue passes its capacity
-use Rattle.std.specs.Prelude.{◌≡◌, refl, true, false, List, [], ◌∷◌, ◌++◌, ℕ, zero, suc, ◌+◌, ◌≤◌, ◌<◌, replicate}
+use Rattle.std.specs.Prelude.{◌≡◌, refl, true, false, List, [], ◌∷◌, ◌++◌, ℕ, ◌+◌, ◌≤◌, ◌<◌, replicate}
 use Rattle.std.proofs.Math.Path.{sym}
 use Rattle.std.proofs.Common.{ap, subst, ◌∙◌, true≢false, append-nil, append_assoc, arith}
 use Rattle.std.proofs.Math.Logic.{by_cases}
@@ -23,9 +23,8 @@ use Rattle.instants.specs.Filled.{Filled}
 use Rattle.instants.proofs.FilledLaws.{filled_as}
 use Rattle.traces.specs.Trace.{resting}
 use Rattle.traces.specs.Rising.{Rising, rising_append}
-use Rattle.losses.specs.Losses.{entries_in, noted, lost_in, lost, Listed, Extends, extends_refl, extends_trans}
+use Rattle.losses.specs.Losses.{entries_in, noted, lost_in, lost, Listed, extends_refl, extends_trans}
 use Rattle.losses.proofs.LossesLaws.{lost_append, listed_noted, is_noted, noted_entries, extends_noted}
-use Rattle.losses.specs.Checks.{Named}
 use Rattle.losses.specs.declared.Loss.{Loss}
 use Rattle.losses.specs.declared.Losses.{Losses}
 use Rattle.recordings.specs.Steps.{dropped}

@@ -24,7 +24,7 @@ use Rattle.state.specs.Checks.{over, cramped}
 use Rattle.state.proofs.ChecksLaws.{cramped_is, cramped_room}
 use Rattle.state.specs.declared.Run.{Run}
 use Rattle.deadline.specs.Deadline.{deadline, index_check}
-use Rattle.instants.specs.Steps.{clean, overflowed, undated, with_done, sourced, next, lacking_test, lacking, chosen, worked, ended_in, finish, finished, tick, ticks}
+use Rattle.instants.specs.Steps.{clean, overflowed, undated, next, lacking_test, lacking, chosen, worked, finished}
 use Rattle.instants.specs.Steps.{tick_of, at_of}
 use Rattle.instants.proofs.BestLaws.{chosen_shift}
 use Rattle.instants.specs.Filled.{Filled, cramped_as}
@@ -32,8 +32,7 @@ use Rattle.instants.proofs.FilledLaws.{fired_filled}
 use Rattle.instants.specs.Runs.{unclean_overflow, unclean_undated, overflow_undated}
 use Rattle.instants.specs.Kept.{SourceStep, fired_clock}
 use Rattle.instants.proofs.KeptLaws.{finish_cases, worked_clock, worked_counts, works_filled, works_on, works_ends, cleared_filled}
-use Rattle.instants.specs.declared.Outcome.{Outcome}
-use Rattle.instants.specs.declared.Outcome.TheVariants.{Clean, Overflowed, NoDeadline}
+use Rattle.instants.specs.declared.Outcome.TheVariants.{Overflowed}
 use Rattle.instants.specs.declared.Ticked.{Ticked}
 use Rattle.recordings.specs.Steps.{dropped, lost_firing}
 use Rattle.recordings.proofs.DropsLaws.{dropped_filled}

@@ -12,7 +12,7 @@ use Rattle.std.proofs.Math.Path.{refl}
 use Rattle.std.proofs.Common.{sym, ap, subst, ◌∙◌, add-zero, arith}
 use Rattle.std.proofs.Math.Logic.{by_cases}
 use Rattle.std.proofs.Math.Bool.{true, false}
-use mathlib.Core.List.{List, [], ◌∷◌, ◌++◌, map}
+use mathlib.Core.List.{List, [], ◌∷◌, ◌++◌}
 use Rattle.std.proofs.Math.Decide.{ℕ_discrete}
 use Rattle.chain.specs.Record.{row_of}
 use Rattle.chain.specs.Sound.{Sound}
@@ -23,7 +23,7 @@ use Rattle.state.specs.Fired.{fired, Over, Room, Slots, BalanceWith, over_enough
 use Rattle.state.proofs.FiredLaws.{slots_kept, counts_length, count_fired, count_other, balance_with_kept}
 use Rattle.state.specs.Checks.{Cramped}
 use Rattle.state.specs.declared.Run.{Run}
-use Rattle.history.specs.History.{Entry, nodes, times}
+use Rattle.history.specs.History.{nodes, times}
 use Rattle.history.proofs.QueuesLaws.{times_again, times_other}
 use Rattle.instants.specs.Filled.{Filled}
 use Rattle.instants.proofs.FilledLaws.{fired_filled}

@@ -2,31 +2,27 @@
 --   source_noted, source_noted_only
 --                              what it leaves where it is clean is that, and nothing else is
 --   work_full, work_noted      what the full list leaves of a tick of work, and what one leaves that is clean, is that
-use Rattle.std.specs.Prelude.{◌≡◌, refl, ◌≢◌, List, ℕ, zero, suc, ◌+◌, ◌≤◌, ◌<◌, length, get_or}
-use Rattle.std.proofs.Common.{sym, ap, ◌∙◌, ⊎_elim, arith, length-set, get_or-set_same, get_or-set_other, ext_get_or}
+use Rattle.std.specs.Prelude.{◌≡◌, refl, ◌≢◌, List, ℕ, suc, ◌+◌, ◌≤◌, ◌<◌, length, get_or}
+use Rattle.std.proofs.Common.{sym, ap, ◌∙◌, arith, length-set, get_or-set_same, get_or-set_other}
 use Rattle.std.proofs.Math.Path.{subst}
-use Rattle.std.proofs.Math.Logic.{by_cases}
 use Rattle.std.proofs.Math.Bool.{false}
-use Rattle.std.proofs.Math.Decide.{ℕ_discrete, dec_dvd}
 use Rattle.chain.specs.Record.{row_of, work_of}
 use Rattle.chain.specs.declared.Chain.{Chain}
-use Rattle.state.specs.State.{count_at, held_at, done_at, same_run}
+use Rattle.state.specs.State.{count_at, held_at, done_at}
 use Rattle.state.specs.Fired.{fired, Over, Room, over_enough}
 use Rattle.state.proofs.FiredLaws.{count_fired, count_other}
-use Rattle.state.specs.Checks.{cramped, Cramped}
-use Rattle.state.proofs.ChecksLaws.{cramped_room, cramped_or}
+use Rattle.state.specs.Checks.{cramped}
+use Rattle.state.proofs.ChecksLaws.{cramped_room}
 use Rattle.state.specs.declared.Run.{Run}
-use Rattle.slots.specs.Runs.{Whole}
 use Rattle.instants.specs.Steps.{clean, with_done, worked, finish, finished}
 use Rattle.instants.specs.Filled.{Filled, cramped_as}
-use Rattle.instants.specs.Source.{Due, SourceOnce}
-use Rattle.instants.proofs.SourceLaws.{once_fires, once_rests, source_only}
-use Rattle.instants.specs.Once.{WorkOnce, work_only}
+use Rattle.instants.proofs.SourceLaws.{once_fires, once_rests}
+use Rattle.instants.specs.Once.{WorkOnce}
 use Rattle.instants.proofs.OnceLaws.{work_once}
 use Rattle.instants.specs.Kept.{fired_clock}
 use Rattle.instants.proofs.KeptLaws.{worked_counts, worked_held, worked_clock, worked_same, worked_other, works_on, works_ends, cleared_filled}
 use Rattle.instants.specs.declared.Ticked.{Ticked}
-use Rattle.losses.specs.Losses.{noted, Noted, Listed, noted_only}
+use Rattle.losses.specs.Losses.{noted, Listed}
 use Rattle.losses.proofs.LossesLaws.{is_noted}
 use Rattle.losses.specs.declared.Losses.{Losses}
 use Rattle.recordings.specs.Steps.{dropped, rec_sourced, rec_finished}

@@ -5,7 +5,7 @@
 --   none_leaves, lacks_leaves, full_source_leaves, full_finish_leaves
 --                              no tick, 13 and 15 at the source leave the state and the list as they were; 15 at a finish leaves the source's step and the work of the tick
 --   full_refused               and 17 refuses that next, at the queue that feeds the node
-use Rattle.std.specs.Prelude.{◌≡◌, refl, List, [], ◌∷◌, ℕ, ◌<◌}
+use Rattle.std.specs.Prelude.{◌≡◌, refl, [], ◌∷◌, ℕ, ◌<◌}
 use Rattle.std.proofs.Common.{ap, subst, inl, inr, ⊎_elim, arith}
 use Rattle.chain.specs.Refusals.{refused}
 use Rattle.chain.specs.Record.{work_of}
@@ -23,8 +23,7 @@ use Rattle.recordings.specs.Kept.{Led}
 use Rattle.recordings.proofs.KeptLaws.{tick_leads}
 use Rattle.recordings.specs.Checks.{Recording, rec_state_check, recording_filled}
 use Rattle.recordings.proofs.ChecksLaws.{rec_state_exact, rec_tick_balance}
-use Rattle.recordings.specs.Once.{SourceNoted, source_noted_only, WorkFull}
-use Rattle.recordings.specs.Fields.{rec_source_done}
+use Rattle.recordings.specs.Once.{source_noted_only, WorkFull}
 use Rattle.recordings.specs.Exactly.{SourceFull, FullTick, LacksTick}
 use Rattle.recordings.proofs.ExactlyLaws.{rec_is_one, rec_tick_exactly, rec_full_exactly, rec_lacks_exactly, rec_clean_exactly}
 use Rattle.recordings.specs.Exactly.{FinishLeaves}

@@ -16,10 +16,10 @@
 --   rec_tick_ran, _refused     what a recording tick answers
 --   rec_run_ran, _refused      what a recording run answers
 use Rattle.std.proofs.Math.Logic.Iff
-use Rattle.std.specs.Prelude.{◌≡◌, ◌↔◌, ◌≢◌, ◌⊎◌, List, [], ◌∷◌, ◌++◌, ℕ, ◌≤◌, ◌<◌}
+use Rattle.std.specs.Prelude.{◌≡◌, ◌↔◌, ◌≢◌, ◌⊎◌, [], ◌∷◌, ◌++◌, ℕ, ◌≤◌, ◌<◌}
 use Rattle.std.proofs.Math.Path.{sym}
 use Rattle.std.proofs.Common.{arith, ne_eqb}
-use Rattle.chain.specs.Refusals.{refused, fine, or_else, first_fine, Silent, Silents, Numbered, Others, number_of, said_earlier}
+use Rattle.chain.specs.Refusals.{refused, fine, or_else, first_fine, Silent, Silents, Numbered}
 use Rattle.chain.specs.declared.Refusal.{Refusal}
 use Rattle.chain.specs.declared.Chain.{Chain}
 use Rattle.sizing.specs.Checks.{limit, analyse_checks, analyse_refusal, analyse_numbers}
@@ -40,9 +40,7 @@ use Rattle.recordings.specs.Checks.{rec_state_check, FirstRecBroken, RecSound}
 use Rattle.recordings.proofs.ChecksLaws.{rec_state_exact, rec_state_silent, rec_state_only}
 use Rattle.recordings.specs.Traced.{rec_run}
 use Rattle.recordings.specs.Answers.{rec_tick_checks, rec_run_checks, rec_tick_refusal, rec_run_refusal, rec_answer_of, rec_tick_answer, rec_run_answer}
-use Rattle.recordings.specs.declared.RecordOutcome.TheVariants.{Clean}
 use Rattle.recordings.specs.declared.Recorded.{Recorded}
-use Rattle.recordings.specs.declared.RecordAnswer.{RecordAnswer}
 use Rattle.recordings.specs.RecRefusals.{rec_tick_numbers, rec_run_numbers, analyse_others, analyse_not, RecTicking, rec_ran_as, rec_refused_as}
 
 -- a recording tick is refused with a number exactly when no earlier check speaks and the number's own condition holds

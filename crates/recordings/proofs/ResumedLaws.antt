@@ -28,7 +28,7 @@ use Rattle.instants.specs.declared.Outcome.TheVariants.{Clean, Overflowed, NoDea
 use Rattle.instants.specs.declared.Ticked.{Ticked}
 use Rattle.losses.specs.Losses.{noted}
 use Rattle.losses.specs.declared.Losses.{Losses}
-use Rattle.recordings.specs.Steps.{rec_clean, rec_undated, rec_full, rec_onward, dropped, lost_firing, recorded, rec_sourced, rec_begun, rec_finished, rec_tick, rec_ticks}
+use Rattle.recordings.specs.Steps.{rec_clean, rec_undated, rec_full, rec_onward, lost_firing, recorded, rec_sourced, rec_begun, rec_finished, rec_tick, rec_ticks}
 use Rattle.recordings.proofs.RunsLaws.{rec_unclean_undated, rec_unclean_full, rec_onward_goes, rec_onward_stops, rec_ticks_none, rec_ticks_suc}
 use Rattle.recordings.proofs.CasesLaws.{rec_tick_begun}
 use Rattle.recordings.specs.Beside.{begun_spills, spilled, tick_spilled}

@@ -1,18 +1,7 @@
 -- One recording tick and a recording run (02, Item 2); "rec" before a name says: the same of a recording run.
-use Rattle.std.specs.Prelude.{◌≡◌, refl, cond, List, [], ◌∷◌, ℕ, zero, suc, eqb, ltb}
-use Rattle.chain.specs.Record.{row_of}
-use Rattle.chain.specs.declared.Chain.{Chain}
-use Rattle.state.specs.Fired.{consumed, fired}
-use Rattle.state.specs.declared.Run.{Run}
-use Rattle.instants.specs.Steps.{with_done, sourced, lacking, chosen, worked, finished}
-use Rattle.instants.specs.declared.Outcome.{Outcome}
-use Rattle.instants.specs.declared.Outcome.TheVariants as plain
-use Rattle.instants.specs.declared.Ticked.{Ticked}
-use Rattle.losses.specs.Losses.{longest_list, noted}
-use Rattle.losses.specs.declared.Losses.{Losses}
+use Rattle.std.specs.Prelude.{◌≡◌, refl, cond, [], ◌∷◌, ℕ, eqb}
 use Rattle.recordings.specs.declared.RecordOutcome.{RecordOutcome}
 use Rattle.recordings.specs.declared.RecordOutcome.TheVariants.{Clean, NoDeadline, ListFull}
-use Rattle.recordings.specs.declared.Recorded.{Recorded}
 use Rattle.recordings.specs.Steps.{rec_number_of, rec_values_of, rec_tick_of, rec_at_of}
 
 pub rec_values : (o : RecordOutcome) → rec_values_of o ≡ cond (eqb (rec_number_of o) 0) [] (rec_tick_of o ∷ rec_at_of o ∷ [])

@@ -2,24 +2,19 @@
 --   rec_run_clock              the clock is T
 --   rec_run_source             the source has fired T/y times, rounded up, lost or not
 --   rec_run_work               all work done is one tick for each instant at which a node waited for it
-use Rattle.std.specs.Prelude.{◌≡◌, ◌⊎◌}
-use Rattle.std.proofs.Common.{sym, ap, subst, ◌∙◌, inl, inr, ⊎_elim, le_refl, arith}
-use Prim.Native.Nat.{ℕ, suc, ◌+◌, ◌<◌, ◌∣◌}
+use Rattle.std.specs.Prelude.{◌≡◌}
+use Rattle.std.proofs.Common.{sym, ap, subst, ◌∙◌, le_refl}
+use Prim.Native.Nat.{ℕ, suc, ◌<◌, ◌∣◌}
 use Rattle.arith.specs.Division.{ceil}
 use Rattle.arith.proofs.DivisionLaws.{ceil_zero}
 use Rattle.chain.specs.declared.Chain.{Chain}
 use Rattle.state.specs.State.{count_at, fresh_count}
-use Rattle.state.specs.declared.Run.{Run}
-use Rattle.instants.specs.Totals.{due_more, total, spent_alike, SomeOver, work_total, HowMany, many_next, fresh_total}
-use Rattle.losses.specs.declared.Losses.{Losses}
+use Rattle.instants.specs.Totals.{due_more, total, HowMany, many_next, fresh_total}
 use Rattle.recordings.specs.Answers.{rec_run_answer}
-use Rattle.recordings.specs.Once.{SourceNoted, source_noted_only}
-use Rattle.recordings.specs.Fields.{rec_source_fires, rec_source_rests, rec_source_work, rec_work_source, rec_own_work, rec_other_work}
-use Rattle.recordings.specs.Exactly.{RecTickOnce}
+use Rattle.recordings.specs.Fields.{rec_source_fires, rec_source_rests, rec_work_source}
 use Rattle.recordings.specs.Along.{RecCleanStep}
 use Rattle.recordings.proofs.AlongLaws.{rec_run_may, rec_run_start, rec_at_clock, rec_along}
 use Rattle.recordings.specs.declared.RecordOutcome.TheVariants.{Clean}
-use Rattle.recordings.specs.declared.Recorded.{Recorded}
 use Rattle.recordings.specs.declared.RecordAnswer.{RecordAnswer}
 use Rattle.recordings.specs.Totals.{RecWaits, rec_tick_total}
 

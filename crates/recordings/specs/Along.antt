@@ -7,25 +7,16 @@
 --                              what each clean tick hands on from x to y at instant t holds of a clean run
 --   rec_follows, rec_carry_on r f, rec_ticks_from c T s l
 --                              T ticks from s and l, as their calls answer: the first refusal, or the first outcome that is not clean, ends it
-use Rattle.std.proofs.Math.Logic.Iff
-use Rattle.std.specs.Prelude.{◌≡◌, refl, ◌↔◌, ℕ, zero, suc, ◌+◌, ◌-◌, ◌≤◌, ◌<◌, length}
-use Rattle.std.proofs.Common.{sym, ap, subst, ◌∙◌, ⊎_elim, le_refl, le_trans, arith}
-use Rattle.chain.specs.Refusals.{Silent}
+use Rattle.std.specs.Prelude.{◌≡◌, refl, ◌↔◌, ℕ, zero, suc, ◌-◌, ◌<◌}
+use Rattle.std.proofs.Common.{sym, ap, ◌∙◌}
 use Rattle.chain.specs.declared.Chain.{Chain}
-use Rattle.sizing.specs.Accepted.{Accepted}
-use Rattle.state.specs.State.{fresh_run}
 use Rattle.state.specs.declared.Run.{Run}
-use Rattle.slots.specs.Runs.{Whole}
-use Rattle.instants.specs.Checks.{longest}
-use Rattle.instants.specs.Follows.{Answered, answered_stays, answered_before, answered_ends, answered_along}
-use Rattle.losses.specs.Losses.{empty_losses, listed_of}
 use Rattle.losses.specs.declared.Losses.{Losses}
-use Rattle.recordings.specs.Steps.{rec_clean, rec_goes, rec_onward, rec_tick, rec_ticks}
-use Rattle.recordings.specs.Checks.{Recording, recording_filled, fresh_recording}
-use Rattle.recordings.specs.Answers.{rec_tick_refusal, rec_answer_of, rec_tick_answer, rec_run_answer}
-use Rattle.recordings.specs.RecRefusals.{RecTicking, rec_ran_as}
-use Rattle.recordings.specs.Exactly.{RecOneTick, RecTickOnce, RecTicksTo}
-use Rattle.recordings.specs.Paced.{RecPaced, rec_fresh_paced, rec_paced_ticking}
+use Rattle.recordings.specs.Steps.{rec_goes, rec_onward}
+use Rattle.recordings.specs.Checks.{Recording}
+use Rattle.recordings.specs.Answers.{rec_tick_answer, rec_run_answer}
+use Rattle.recordings.specs.RecRefusals.{rec_ran_as}
+use Rattle.recordings.specs.Exactly.{RecTickOnce}
 use Rattle.recordings.specs.declared.RecordOutcome.{RecordOutcome}
 use Rattle.recordings.specs.declared.RecordOutcome.TheVariants.{Clean, NoDeadline, ListFull}
 use Rattle.recordings.specs.declared.Recorded.{Recorded}

@@ -7,20 +7,19 @@
 --   rec_tick_answer c s l      the whole answer of a recording tick: the state and the list as they were, or what the tick leaves
 --   rec_run_answer c T         the whole answer of a recording run: an empty state and an empty list, or what the run leaves
 --   late_run t, long_list      a state of clock t in which nothing has happened, and a list of 257 entries
-use Rattle.std.specs.Prelude.{◌≡◌, refl, cond, List, [], ◌∷◌, ◌++◌, ℕ, eqb, replicate}
-use Rattle.chain.specs.Refusals.{refused, fine, first}
+use Rattle.std.specs.Prelude.{cond, List, [], ◌∷◌, ◌++◌, ℕ, eqb, replicate}
+use Rattle.chain.specs.Refusals.{first}
 use Rattle.chain.specs.declared.Refusal.{Refusal}
 use Rattle.chain.specs.declared.Chain.{Chain}
 use Rattle.sizing.specs.Checks.{analyse_checks, analyse_refusal}
 use Rattle.state.specs.State.{empty_run, fresh_run}
 use Rattle.state.specs.declared.Run.{Run}
 use Rattle.instants.specs.Checks.{clock_check, spent_check, length_check}
-use Rattle.losses.specs.Losses.{loss, empty_losses, entry_at}
+use Rattle.losses.specs.Losses.{loss, empty_losses}
 use Rattle.losses.specs.declared.Losses.{Losses}
 use Rattle.recordings.specs.Steps.{rec_tick, rec_instants}
 use Rattle.recordings.specs.Checks.{rec_state_check}
 use Rattle.recordings.specs.Traced.{rec_run}
-use Rattle.recordings.specs.Figures.{shallow}
 use Rattle.recordings.specs.declared.RecordOutcome.TheVariants.{Clean}
 use Rattle.recordings.specs.declared.Recorded.{Recorded}
 use Rattle.recordings.specs.declared.RecordAnswer.{RecordAnswer}

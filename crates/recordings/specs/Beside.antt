@@ -3,33 +3,23 @@
 --   spilled, tick_spilled      where the source's production does not fit, the deadline tick ends with that
 --   TakenBack, NextLoss        13 has taken back what the source's step lost; the next entry is that of a loss at t and queue q
 --   TakenBackThen c T s l      the deadline run overflows where 13 has taken back the loss
-use Rattle.std.specs.Prelude.{◌≡◌, ◌⊎◌, Bool, eqb}
+use Rattle.std.specs.Prelude.{◌≡◌, Bool, eqb}
 use Rattle.std.proofs.Math.Path.{refl, ap}
-use Rattle.std.proofs.Common.{sym, subst, ◌∙◌, arith, le-ltb}
-use Rattle.std.proofs.Math.Logic.{inl, inr, ⊎_elim, by_cases}
+use Rattle.std.proofs.Common.{sym, ◌∙◌, arith}
 use Rattle.std.proofs.Math.Bool.{true, false, cond}
-use Prim.Native.Nat.{ℕ, zero, suc, ◌≤◌, ◌<◌}
-use Rattle.std.proofs.Math.Decide.{dec_lt}
+use Prim.Native.Nat.{ℕ, ◌<◌}
 use Rattle.chain.specs.Record.{row_of}
 use Rattle.chain.specs.declared.Chain.{Chain}
 use Rattle.state.specs.declared.Run.{Run}
-use Rattle.instants.specs.Steps.{clean, overflowed, with_done, undated, onward, sourced, lacking, begun, chosen, worked, finished, tick, ticks, instants}
-use Rattle.instants.specs.Steps.{tick_of, at_of}
-use Rattle.instants.specs.Runs.{unclean_overflow, overflow_undated, clean_or, onward_goes, onward_stops}
-use Rattle.instants.proofs.RunsLaws.{ticks_none, ticks_suc, instants_ticks}
-use Rattle.instants.proofs.KeptLaws.{source_cases, begun_clean, begun_over, chosen_low, chosen_over, tick_begun, tick_ends, tick_step}
-use Rattle.instants.specs.Filled.{Filled}
-use Rattle.instants.specs.declared.Outcome.{Outcome}
+use Rattle.instants.specs.Steps.{clean, overflowed, undated, sourced, lacking, begun, tick, ticks}
+use Rattle.instants.specs.Runs.{unclean_overflow, overflow_undated, onward_goes}
+use Rattle.instants.proofs.KeptLaws.{source_cases, begun_clean, begun_over, tick_ends}
 use Rattle.instants.specs.declared.Outcome.TheVariants as plain
 use Rattle.instants.specs.declared.Ticked.{Ticked}
-use Rattle.traces.specs.Trace.{source_entry}
 use Rattle.losses.specs.Losses.{loss, entry_at, noted, Listed, Extends}
 use Rattle.losses.proofs.LossesLaws.{is_noted}
 use Rattle.losses.specs.declared.Losses.{Losses}
-use Rattle.recordings.specs.Steps.{rec_clean, rec_undated, rec_full, rec_onward, dropped, lost_firing, recorded, rec_sourced, rec_begun, rec_finished, rec_tick, rec_ticks, rec_instants}
-use Rattle.recordings.specs.Kept.{Led}
-use Rattle.recordings.specs.Trace.{marked, rec_tracing}
-use Rattle.recordings.specs.declared.RecordOutcome.TheVariants.{Clean, NoDeadline}
+use Rattle.recordings.specs.Steps.{rec_clean, rec_undated, rec_ticks}
 use Rattle.recordings.specs.declared.Recorded.{Recorded}
 
 -- 13 is no overflow

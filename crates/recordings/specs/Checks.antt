@@ -9,36 +9,28 @@
 --   recording_filled, filled_recording
 --                              what the steps need of them, and what 17 asks besides
 --   fresh_recording            a fresh start with an empty list is one
-use Rattle.std.proofs.Math.Logic.Iff
-use Rattle.std.specs.Prelude.{◌≡◌, ◌↔◌, ◌⊎◌, List, ℕ, suc, ◌+◌, ◌*◌, ◌≤◌, ◌<◌, get_or, eqb, leb, ltb}
-use Rattle.std.proofs.Common.{sym, ap, ap₂, ◌∙◌, ⊎_elim, add-zero, arith, eq-eqb}
-use Rattle.words.specs.Table.{tab, tab_alike}
-use Rattle.chain.specs.Tests.{sum_iff}
-use Rattle.chain.specs.Refusals.{refused, fine, test, first, or_else, Silent, first_fine, or_says, or_silents, Only, only_or}
+use Rattle.std.specs.Prelude.{◌⊎◌, ℕ, ◌+◌, ◌≤◌, ◌<◌}
+use Rattle.std.proofs.Common.{sym, ◌∙◌, add-zero, arith}
+use Rattle.words.specs.Table.{tab}
+use Rattle.chain.specs.Refusals.{first, or_else}
 use Rattle.chain.specs.Record.{row_of, work_of}
 use Rattle.chain.specs.declared.Refusal.{Refusal}
 use Rattle.chain.specs.declared.Chain.{Chain}
 use Rattle.onequeue.specs.Capacity.{capacity}
 use Rattle.onequeue.specs.Least.{least}
-use Rattle.sizing.specs.Sizes.{start, capacity_of}
+use Rattle.sizing.specs.Sizes.{capacity_of}
 use Rattle.sizing.specs.Accepted.{Accepted}
-use Rattle.state.specs.State.{fresh_run, count_at, held_at, done_at}
+use Rattle.state.specs.State.{fresh_run, held_at, done_at}
 use Rattle.state.specs.Fired.{supplied, accounted, BalanceWith}
-use Rattle.state.specs.Checks.{broken_unless, queue_test}
-use Rattle.state.proofs.ChecksLaws.{queues_exact, queues_silent, queues_only}
+use Rattle.state.specs.Checks.{queue_test}
 use Rattle.state.specs.declared.Run.{Run}
 use Rattle.slots.specs.Runs.{Whole}
 use Rattle.instants.specs.Filled.{Filled}
-use Rattle.instants.proofs.FilledLaws.{filled_slots, running_filled}
+use Rattle.instants.proofs.FilledLaws.{running_filled}
 use Rattle.instants.proofs.FreshLaws.{fresh_running}
-use Rattle.losses.specs.Losses.{longest_list, empty_losses, entry_at, lost_in, lost, Listed, listed_empty}
-use Rattle.losses.specs.Checks.{stray_test, stray_check, list_check, LongOrStray, Named}
-use Rattle.losses.proofs.ChecksLaws.{list_exact, list_silent, list_only}
+use Rattle.losses.specs.Losses.{empty_losses, lost_in, lost, Listed, listed_empty}
+use Rattle.losses.specs.Checks.{list_check, Named}
 use Rattle.losses.specs.declared.Losses.{Losses}
-use Rattle.recordings.specs.Steps.{rec_tick, rec_ticks}
-use Rattle.recordings.specs.Marked.{Marked}
-use Rattle.recordings.specs.Leads.{Leads}
-use Rattle.recordings.specs.declared.RecordOutcome.TheVariants.{ListFull}
 
 -- what queue i holds, "c × consumer's count", and the sum of its entries
 abbrev pub rec_accounted : Chain → Run → Losses → ℕ → ℕ

@@ -21,32 +21,25 @@
 --   RecTicksTo c T s l x       T ticks of s and l, as far as they are clean, end with x
 --   rec_ticks_to_only, rec_ticks_exactly
 --                              there is at most one such x, and so many ticks end with it
-use Rattle.std.specs.Prelude.{◌≡◌, ◌↔◌, ◌⊎◌, List, get_or}
-use Rattle.std.proofs.Math.Path.{refl, subst}
+use Rattle.std.specs.Prelude.{◌≡◌, ◌⊎◌}
+use Rattle.std.proofs.Math.Path.{subst}
 use Rattle.std.proofs.Common.{sym, ap, ◌∙◌, ⊎_elim, arith}
-use Rattle.std.proofs.Math.Logic.{inl, inr}
 use Prim.Native.Nat.{ℕ, zero, suc, ◌+◌, ◌≤◌, ◌<◌}
 use Rattle.chain.specs.Record.{work_of}
 use Rattle.chain.specs.declared.Chain.{Chain}
-use Rattle.state.specs.State.{held_at, done_at}
-use Rattle.state.specs.Fired.{Over, Room}
+use Rattle.state.specs.State.{done_at}
 use Rattle.state.specs.Checks.{Cramped}
 use Rattle.state.specs.declared.Run.{Run}
-use Rattle.instants.specs.Steps.{lacking, chosen, worked}
-use Rattle.instants.specs.Filled.{Filled}
 use Rattle.instants.specs.Source.{Due}
 use Rattle.instants.specs.Lacking.{FirstLacking}
 use Rattle.instants.specs.Outcomes.{Dated}
-use Rattle.instants.proofs.OutcomesLaws.{lacking_once, lacking_dated, lacking_found, dated_of_law}
+use Rattle.instants.proofs.OutcomesLaws.{lacking_once, lacking_dated}
 use Rattle.instants.specs.Once.{Works}
 use Rattle.instants.proofs.OnceLaws.{works_is}
-use Rattle.instants.proofs.KeptLaws.{worked_clock}
-use Rattle.losses.specs.Losses.{Listed}
 use Rattle.losses.specs.declared.Losses.{Losses}
-use Rattle.recordings.specs.Steps.{rec_tick_of, rec_at_of, rec_clean, rec_undated, rec_full, rec_onward, rec_sourced, rec_finished, rec_tick, rec_ticks}
+use Rattle.recordings.specs.Steps.{rec_clean, rec_undated, rec_full}
 use Rattle.recordings.specs.Once.{SourceNoted, source_noted_only, WorkNoted, work_noted_only, WorkFull, work_full_only}
-use Rattle.recordings.specs.declared.RecordOutcome.{RecordOutcome}
-use Rattle.recordings.specs.declared.RecordOutcome.TheVariants.{Clean, NoDeadline, ListFull}
+use Rattle.recordings.specs.declared.RecordOutcome.TheVariants.{Clean}
 use Rattle.recordings.specs.declared.Recorded.{Recorded}
 
 -- "a 257th loss stops the run before it happens", at the source's step

@@ -10,23 +10,18 @@
 --                              as a deadline tick it overflows, and as a recording tick 13 ends it, taking back the source's loss
 --   shallow_accepted, two_accepted
 --                              chains that lose are accepted
-use Rattle.std.specs.Prelude.{◌≡◌, refl, List, [], ◌∷◌, true, false, ℕ, replicate}
-use Rattle.words.specs.Table.{tab}
-use Rattle.chain.specs.Refusals.{refused}
+use Rattle.std.specs.Prelude.{◌≡◌, refl, List, [], ◌∷◌, ℕ, replicate}
 use Rattle.chain.specs.Factory.{queue, made}
 use Rattle.chain.specs.declared.Chain.{Chain}
 use Rattle.sizing.specs.Checks.{analyse_refusal}
 use Rattle.sizing.specs.Accepted.{Accepted}
 use Rattle.sizing.proofs.AcceptedLaws.{analyse_accepts}
-use Rattle.state.specs.State.{fresh_run, count_at, held_at, done_at}
+use Rattle.state.specs.State.{count_at, held_at, done_at}
 use Rattle.state.specs.declared.Run.{Run}
-use Rattle.instants.specs.Figures.{feed_working}
 use Rattle.instants.specs.Steps.{overflowed, tick}
-use Rattle.losses.specs.Losses.{empty_losses, loss, entry_at, entries_in}
+use Rattle.losses.specs.Losses.{loss}
 use Rattle.losses.specs.declared.Losses.{Losses}
-use Rattle.recordings.specs.Steps.{rec_number_of, rec_values_of, rec_undated, rec_tick, rec_ticks, rec_instants}
-use Rattle.recordings.specs.Trace.{rec_trace}
-use Rattle.recordings.specs.Checks.{rec_state_check}
+use Rattle.recordings.specs.Steps.{rec_number_of, rec_values_of}
 use Rattle.recordings.specs.declared.Recorded.{Recorded}
 
 -- what is left, of a chain of one queue

@@ -1,25 +1,12 @@
 -- The trace of a recording run, tick by tick (02, Item 2), from any state that a step may be made in and any list of 256 slots.
 --   EachAt t h                 each firing of h is the source's at t, or a node's at t+1
 --   Grows t g h                h is g, and then firings of the tick at t
-use Rattle.std.specs.Prelude.{◌≡◌, ◌⊎◌, Bool, true, false, cond}
-use Rattle.std.proofs.Math.Path.{refl, sym, ap, subst}
-use Rattle.std.proofs.Common.{◌∙◌, inl, inr, add-zero, arith}
-use Rattle.std.proofs.Math.Logic.{⊎_elim}
-use mathlib.Core.List.{List, [], ◌∷◌, ◌++◌, append-nil, append_assoc}
-use Prim.Native.Nat.{ℕ, zero, suc, ◌+◌, ◌<◌}
+use Rattle.std.specs.Prelude.{◌≡◌, ◌⊎◌}
+use mathlib.Core.List.{List, [], ◌∷◌, ◌++◌}
+use Prim.Native.Nat.{ℕ, ◌+◌, ◌<◌}
 use Rattle.chain.specs.declared.Chain.{Chain}
-use Rattle.state.specs.declared.Run.{Run}
-use Rattle.instants.specs.Steps.{with_done, divides, chosen, worked, ended}
-use Rattle.instants.specs.Filled.{Filled}
-use Rattle.instants.specs.Kept.{fired_clock}
-use Rattle.instants.proofs.KeptLaws.{chosen_low, worked_clock}
-use Rattle.traces.specs.Trace.{source_entry, finish_entry}
-use Rattle.losses.specs.Losses.{Listed}
-use Rattle.losses.specs.declared.Losses.{Losses}
-use Rattle.recordings.specs.Steps.{rec_sourced, rec_begun, rec_finished, rec_tick, rec_ticks}
 use Rattle.recordings.specs.Marked.{Marked}
-use Rattle.recordings.specs.Trace.{marked, rec_tracing, rec_finish_trace, rec_tick_trace, rec_trace}
-use Rattle.recordings.specs.Kept.{rec_tracing_clean, rec_tracing_none}
+use Rattle.recordings.specs.Trace.{rec_tracing, rec_tick_trace}
 use Rattle.recordings.specs.declared.RecordOutcome.{RecordOutcome}
 use Rattle.recordings.specs.declared.RecordOutcome.TheVariants.{Clean, NoDeadline, ListFull}
 use Rattle.recordings.specs.declared.Recorded.{Recorded}

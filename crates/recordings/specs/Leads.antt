@@ -1,31 +1,14 @@
 -- What firings make of a state and a list, lost or not (02, Item 2).
 --   Leads c s l h u m          the firings h, each of them fair, lead from the counts and contents of s to those of u, and note in m what they lose
-use Rattle.std.specs.Prelude.{◌≡◌, refl, true, false, List, [], ◌∷◌, ◌++◌, ℕ, zero, suc, ◌+◌, ◌≤◌, ◌<◌, replicate}
-use Rattle.std.proofs.Math.Path.{sym}
-use Rattle.std.proofs.Common.{ap, subst, ◌∙◌, true≢false, append-nil, append_assoc, arith}
-use Rattle.std.proofs.Math.Logic.{by_cases}
-use Rattle.std.proofs.lemmas.List.{map-append}
-use Rattle.std.proofs.Math.Nat.{le_refl}
-use Rattle.std.proofs.Math.Decide.{ℕ_discrete}
-use Rattle.chain.specs.Record.{row_of}
-use Rattle.chain.specs.Sound.{Sound}
+use Rattle.std.specs.Prelude.{◌≡◌, List, ◌++◌, ℕ, zero, suc}
 use Rattle.chain.specs.declared.Chain.{Chain}
-use Rattle.sizing.specs.Sizes.{capacity_of}
-use Rattle.state.specs.State.{held_at, done_at, zeros}
-use Rattle.state.specs.Fired.{fired, Over, Room, Slots, BalanceWith}
-use Rattle.state.specs.Checks.{Cramped}
+use Rattle.state.specs.Fired.{Over}
 use Rattle.state.specs.declared.Run.{Run}
-use Rattle.history.specs.History.{Entry}
-use Rattle.instants.specs.Filled.{Filled}
-use Rattle.instants.proofs.FilledLaws.{filled_as}
 use Rattle.traces.specs.Trace.{resting}
-use Rattle.traces.specs.Rising.{Rising, rising_append}
-use Rattle.losses.specs.Losses.{entries_in, noted, lost_in, lost, Listed, Extends, extends_refl, extends_trans}
-use Rattle.losses.proofs.LossesLaws.{lost_append, listed_noted, is_noted, noted_entries, extends_noted}
+use Rattle.traces.specs.Rising.{Rising}
+use Rattle.losses.specs.Losses.{entries_in, Listed, Extends}
 use Rattle.losses.specs.Checks.{Named}
-use Rattle.losses.specs.declared.Loss.{Loss}
 use Rattle.losses.specs.declared.Losses.{Losses}
-use Rattle.recordings.specs.Steps.{dropped}
 use Rattle.recordings.specs.Marked.{Marked, unmarked, rec_after, EachFair, losses_of}
 
 -- the firings h lead from s and l to u and m: each is fair where it is made, the counts and contents after them are u's, and m has l's entries and then what the

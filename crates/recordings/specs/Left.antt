@@ -7,37 +7,25 @@
 --   left_with, left_clean, _undated, _source
 --                              what is left, by its outcome; a clean state, 13 and the source's overflow are such
 --   finished_at, _dated        which never overflows at the source, and never ends with 13
-use Rattle.std.specs.Prelude.{◌≡◌, true, false, ◌&&◌, ◌≢◌, List, eqb, length, get_or}
-use Rattle.std.proofs.Math.Path.{refl, ap}
-use Rattle.std.proofs.Common.{sym, subst, ◌∙◌, arith}
-use Rattle.std.proofs.Math.Bool.{not}
-use Rattle.std.proofs.Math.Logic.{by_cases}
+use Rattle.std.specs.Prelude.{◌≡◌}
+use Rattle.std.proofs.Math.Path.{ap}
+use Rattle.std.proofs.Common.{sym, arith}
 use Prim.Native.Nat.{ℕ, zero, suc, ◌+◌, ◌-◌, ◌≤◌, ◌<◌}
-use Rattle.std.proofs.Math.Decide.{ℕ_discrete}
-use Rattle.words.specs.Table.{tab_alike}
-use Rattle.chain.specs.Refusals.{first, test}
 use Rattle.chain.specs.Record.{work_of}
 use Rattle.chain.specs.declared.Chain.{Chain}
 use Rattle.sizing.specs.Checks.{limit}
 use Rattle.state.specs.State.{count_at, done_at}
-use Rattle.state.specs.Fired.{fired, consumed, Over}
-use Rattle.state.proofs.FiredLaws.{count_fired, count_other}
-use Rattle.state.specs.Checks.{over, cramped}
-use Rattle.state.proofs.ChecksLaws.{cramped_is, cramped_room}
+use Rattle.state.specs.Fired.{Over}
 use Rattle.state.specs.declared.Run.{Run}
-use Rattle.deadline.specs.Deadline.{deadline, index_check}
-use Rattle.instants.specs.Steps.{clean, overflowed, undated, with_done, sourced, next, lacking_test, lacking, chosen, worked, ended_in, finish, finished, tick, ticks}
-use Rattle.instants.specs.Steps.{tick_of, at_of}
-use Rattle.instants.proofs.BestLaws.{chosen_shift}
-use Rattle.instants.specs.Filled.{Filled, cramped_as}
-use Rattle.instants.proofs.FilledLaws.{fired_filled}
+use Rattle.instants.specs.Steps.{overflowed, with_done, sourced, worked, ended_in, finish, finished}
+use Rattle.instants.specs.Steps.{at_of}
+use Rattle.instants.specs.Filled.{Filled}
 use Rattle.instants.specs.Runs.{unclean_overflow, unclean_undated, overflow_undated}
-use Rattle.instants.specs.Kept.{SourceStep, fired_clock}
-use Rattle.instants.proofs.KeptLaws.{finish_cases, worked_clock, worked_counts, works_filled, works_on, works_ends, cleared_filled}
+use Rattle.instants.proofs.KeptLaws.{finish_cases}
 use Rattle.instants.specs.declared.Outcome.{Outcome}
 use Rattle.instants.specs.declared.Outcome.TheVariants.{Clean, Overflowed, NoDeadline}
 use Rattle.instants.specs.declared.Ticked.{Ticked}
-use Rattle.recordings.specs.Steps.{dropped, lost_firing}
+use Rattle.recordings.specs.Steps.{lost_firing}
 
 -- ticks can be made of s up to clock U, and no count passes the limit in them
 pub record Able (c : Chain) (U : ℕ) (s : Run) : Type 0 where

@@ -7,28 +7,17 @@
 --   losses_of c h              what the lost ones lose, in order: the instant, the queue and p
 --   rec_after_none, _lost, _fits, losses_none, _lost, _fits
 --                              what the first firing does and loses
-use Rattle.std.specs.Prelude.{◌≡◌, Bool, cond, ℕ, suc, ◌+◌, ◌≤◌, ◌<◌, length}
+use Rattle.std.specs.Prelude.{◌≡◌, Bool, cond, ℕ, ◌≤◌}
 use Rattle.std.proofs.Math.Path.{refl}
-use Rattle.std.proofs.Common.{sym, ap, subst, ◌∙◌, add-zero, arith}
-use Rattle.std.proofs.Math.Logic.{by_cases}
 use Rattle.std.proofs.Math.Bool.{true, false}
-use mathlib.Core.List.{List, [], ◌∷◌, ◌++◌, map}
-use Rattle.std.proofs.Math.Decide.{ℕ_discrete}
+use mathlib.Core.List.{List, [], ◌∷◌, map}
 use Rattle.chain.specs.Record.{row_of}
-use Rattle.chain.specs.Sound.{Sound}
 use Rattle.chain.specs.declared.Chain.{Chain}
-use Rattle.sizing.specs.Sizes.{capacity_of}
-use Rattle.state.specs.State.{count_at, held_at}
-use Rattle.state.specs.Fired.{fired, Over, Room, Slots, BalanceWith, over_enough}
-use Rattle.state.proofs.FiredLaws.{slots_kept, counts_length, count_fired, count_other, balance_with_kept}
+use Rattle.state.specs.Fired.{fired, Over, Room}
 use Rattle.state.specs.Checks.{Cramped}
 use Rattle.state.specs.declared.Run.{Run}
-use Rattle.history.specs.History.{Entry, nodes, times}
-use Rattle.history.proofs.QueuesLaws.{times_again, times_other}
-use Rattle.instants.specs.Filled.{Filled}
-use Rattle.instants.proofs.FilledLaws.{fired_filled}
-use Rattle.losses.specs.Losses.{loss, lost_in}
-use Rattle.losses.proofs.LossesLaws.{lost_append}
+use Rattle.history.specs.History.{Entry}
+use Rattle.losses.specs.Losses.{loss}
 use Rattle.losses.specs.declared.Loss.{Loss}
 use Rattle.recordings.specs.Steps.{dropped}
 

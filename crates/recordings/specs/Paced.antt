@@ -4,8 +4,8 @@
 --   rec_fresh_paced, rec_tick_paced
 --                              a fresh start with an empty list is one, and a clean tick leaves one
 --   rec_paced_ticking          before the longest run is over no check refuses a tick of one
-use Rattle.std.specs.Prelude.{◌≡◌, refl, ℕ, zero, suc, ◌≤◌, ◌<◌}
-use Rattle.std.proofs.Common.{sym, ap, ◌∙◌, arith}
+use Rattle.std.specs.Prelude.{ℕ, suc, ◌≤◌, ◌<◌}
+use Rattle.std.proofs.Common.{arith}
 use Rattle.std.proofs.Math.Logic.{by_cases}
 use Rattle.std.proofs.Math.Decide.{ℕ_discrete, dec_dvd}
 use Rattle.chain.specs.declared.Chain.{Chain}
@@ -13,16 +13,14 @@ use Rattle.sizing.specs.Accepted.{Accepted}
 use Rattle.state.specs.State.{fresh_run, count_at}
 use Rattle.state.specs.declared.Run.{Run}
 use Rattle.instants.specs.Checks.{longest}
-use Rattle.instants.specs.Fresh.{InPace, fresh_in_pace, pace_kept}
+use Rattle.instants.specs.Fresh.{InPace, fresh_in_pace}
 use Rattle.instants.proofs.FreshLaws.{pace_countable}
 use Rattle.losses.specs.Losses.{empty_losses}
 use Rattle.losses.specs.declared.Losses.{Losses}
-use Rattle.recordings.specs.Steps.{rec_tick, rec_ticks}
-use Rattle.recordings.specs.Checks.{Recording, recording_filled, fresh_recording}
+use Rattle.recordings.specs.Checks.{Recording, fresh_recording}
 use Rattle.recordings.specs.RecRefusals.{RecTicking}
 use Rattle.recordings.specs.Fields.{rec_source_fires, rec_source_rests, rec_source_others, rec_work_source, rec_work_most}
 use Rattle.recordings.specs.Exactly.{RecTickOnce}
-use Rattle.recordings.specs.declared.RecordOutcome.TheVariants.{Clean}
 use Rattle.recordings.specs.declared.Recorded.{Recorded}
 
 -- a clean tick adds at most one to each count

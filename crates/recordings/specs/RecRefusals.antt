@@ -5,30 +5,19 @@
 --                              the same as a record, which the code of a recording tick asks
 --   rec_ran_as x, rec_refused_as r s l
 --                              the two forms of an answer
-use Rattle.std.proofs.Math.Logic.Iff
-use Rattle.std.specs.Prelude.{◌≡◌, ◌↔◌, ◌≢◌, ◌⊎◌, List, [], ◌∷◌, ◌++◌, ℕ, ◌≤◌, ◌<◌}
-use Rattle.std.proofs.Math.Path.{sym}
-use Rattle.std.proofs.Common.{arith, ne_eqb}
-use Rattle.chain.specs.Refusals.{refused, fine, or_else, first_fine, Silent, Silents, Numbered, Others, number_of, said_earlier}
+use Rattle.std.specs.Prelude.{◌≡◌, ◌≢◌, List, [], ◌∷◌, ◌++◌, ℕ, ◌≤◌, ◌<◌}
+use Rattle.std.proofs.Common.{arith}
+use Rattle.chain.specs.Refusals.{refused, Others, number_of, said_earlier}
 use Rattle.chain.specs.declared.Refusal.{Refusal}
 use Rattle.chain.specs.declared.Chain.{Chain}
 use Rattle.sizing.specs.Checks.{limit, analyse_checks, analyse_refusal, analyse_numbers}
 use Rattle.sizing.proofs.ChecksLaws.{analyse_numbered}
 use Rattle.sizing.specs.Accepted.{Accepted}
-use Rattle.sizing.proofs.AcceptedLaws.{analyse_accepts}
-use Rattle.state.specs.State.{count_at, empty_run}
+use Rattle.state.specs.State.{count_at}
 use Rattle.state.specs.declared.Run.{Run}
-use Rattle.instants.specs.Checks.{longest, clock_check, spent_check, length_check}
-use Rattle.instants.specs.Refusals.{LateOrSpent}
-use Rattle.instants.proofs.RefusalsLaws.{tick_own_parts, tick_own_silent, tick_own_earlier, tick_own_numbered, tick_own_17, tick_own_9}
-use Rattle.instants.proofs.RefusalsLaws.{run_own_parts, run_own_silent, run_own_earlier, run_own_numbered, run_own_9}
-use Rattle.losses.specs.Losses.{empty_losses}
-use Rattle.losses.specs.Checks.{LongOrStray, Named}
+use Rattle.instants.specs.Checks.{longest}
 use Rattle.losses.specs.declared.Losses.{Losses}
-use Rattle.recordings.specs.Steps.{rec_tick}
-use Rattle.recordings.specs.Checks.{rec_state_check, FirstRecBroken, RecSound}
-use Rattle.recordings.specs.Traced.{rec_run}
-use Rattle.recordings.specs.Answers.{rec_tick_checks, rec_run_checks, rec_tick_refusal, rec_run_refusal, rec_answer_of, rec_tick_answer, rec_run_answer}
+use Rattle.recordings.specs.Checks.{RecSound}
 use Rattle.recordings.specs.declared.RecordOutcome.TheVariants.{Clean}
 use Rattle.recordings.specs.declared.Recorded.{Recorded}
 use Rattle.recordings.specs.declared.RecordAnswer.{RecordAnswer}

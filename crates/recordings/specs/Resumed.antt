@@ -1,30 +1,17 @@
 -- A recording run as deadline runs that are joined by losses (02, Item 2): how it goes on from each outcome of the deadline run.
 --   rec_from c U l y           how a recording run up to clock U goes on from y, what steps of the deadline run have left, with the list l
-use Rattle.std.specs.Prelude.{◌≡◌, Bool, eqb}
-use Rattle.std.proofs.Math.Path.{refl, ap}
-use Rattle.std.proofs.Common.{sym, subst, ◌∙◌, inl, inr, eq-eqb}
-use Rattle.std.proofs.Math.Bool.{cond}
-use Rattle.std.proofs.Math.Logic.{⊎_elim}
-use Prim.Native.Nat.{ℕ, zero, suc, ◌+◌, ◌-◌, ◌≤◌, ◌<◌}
-use native.Mathlib.Omega.{arith}
-use Rattle.chain.specs.Refusals.{refused, Silent}
+use Prim.Native.Nat.{ℕ, zero, suc, ◌-◌, ◌<◌}
 use Rattle.chain.specs.Record.{row_of}
-use Rattle.chain.specs.declared.Refusal.{Refusal}
 use Rattle.chain.specs.declared.Chain.{Chain}
 use Rattle.state.specs.declared.Run.{Run}
-use Rattle.instants.specs.Steps.{clean, overflowed, sourced, lacking, chosen, worked, finished, begun, tick, ticks}
-use Rattle.instants.specs.Filled.{Filled}
-use Rattle.instants.specs.Runs.{unclean_overflow, unclean_undated, clean_or, onward_goes, onward_stops}
-use Rattle.instants.proofs.RunsLaws.{ticks_none, ticks_suc}
-use Rattle.instants.proofs.KeptLaws.{sourced_clean, begun_clean, tick_ends, tick_works, tick_step, chosen_low, chosen_over, finished_clock, worked_clock}
+use Rattle.instants.specs.Steps.{overflowed, chosen, worked}
 use Rattle.instants.specs.declared.Outcome.{Outcome}
 use Rattle.instants.specs.declared.Outcome.TheVariants.{Clean, Overflowed, NoDeadline}
 use Rattle.instants.specs.declared.Ticked.{Ticked}
 use Rattle.losses.specs.Losses.{noted}
 use Rattle.losses.specs.declared.Losses.{Losses}
-use Rattle.recordings.specs.Steps.{rec_clean, rec_undated, rec_full, rec_onward, dropped, lost_firing, recorded, rec_sourced, rec_begun, rec_finished, rec_tick, rec_ticks}
-use Rattle.recordings.specs.Beside.{begun_spills, spilled, tick_spilled}
-use Rattle.recordings.specs.Left.{Able, SourceLost, Left, left_with, finished_at, Midway}
+use Rattle.recordings.specs.Steps.{rec_undated, rec_onward, dropped, recorded, rec_finished, rec_tick, rec_ticks}
+use Rattle.recordings.specs.Left.{SourceLost}
 use Rattle.recordings.specs.declared.Recorded.{Recorded}
 
 -- how a recording run goes on from there: with more ticks; with a loss at a finish and more ticks; with the whole tick of which the source's step overflows

@@ -2,23 +2,16 @@
 --   RecWaits c s l             one of N_1 to N_n is over threshold after the source's step
 --   rec_tick_total             a clean tick adds one tick of work where a node waits for it, and none elsewhere
 use Rattle.std.specs.Prelude.{◌≡◌, ◌⊎◌}
-use Rattle.std.proofs.Common.{sym, ap, subst, ◌∙◌, inl, inr, ⊎_elim, le_refl, arith}
-use Prim.Native.Nat.{ℕ, suc, ◌+◌, ◌<◌, ◌∣◌}
-use Rattle.arith.specs.Division.{ceil}
-use Rattle.arith.proofs.DivisionLaws.{ceil_zero}
+use Rattle.std.proofs.Common.{subst, inl, inr, ⊎_elim, arith}
+use Prim.Native.Nat.{◌+◌}
 use Rattle.chain.specs.declared.Chain.{Chain}
-use Rattle.state.specs.State.{count_at, fresh_count}
 use Rattle.state.specs.declared.Run.{Run}
-use Rattle.instants.specs.Totals.{due_more, total, spent_alike, SomeOver, work_total, HowMany, many_next, fresh_total}
+use Rattle.instants.specs.Totals.{total, spent_alike, SomeOver, work_total}
 use Rattle.losses.specs.declared.Losses.{Losses}
-use Rattle.recordings.specs.Answers.{rec_run_answer}
 use Rattle.recordings.specs.Once.{SourceNoted, source_noted_only}
-use Rattle.recordings.specs.Fields.{rec_source_fires, rec_source_rests, rec_source_work, rec_work_source, rec_own_work, rec_other_work}
+use Rattle.recordings.specs.Fields.{rec_source_work, rec_own_work, rec_other_work}
 use Rattle.recordings.specs.Exactly.{RecTickOnce}
-use Rattle.recordings.specs.Along.{RecCleanStep}
-use Rattle.recordings.specs.declared.RecordOutcome.TheVariants.{Clean}
 use Rattle.recordings.specs.declared.Recorded.{Recorded}
-use Rattle.recordings.specs.declared.RecordAnswer.{RecordAnswer}
 
 -- a node is over threshold after the source's step
 pub record RecWaits (c : Chain) (s : Run) (l : Losses) : Type 0 where

@@ -10,7 +10,7 @@
 --   rec_run_kept, rec_run_zero_entries, rec_run_whole, rec_run_long
 --                            whose slots past n and past the count are zero, and which has all its slots
 use Rattle.std.specs.Prelude.{◌≡◌, refl, Bool, true, false, cond, ℕ, ◌≤◌, eqb, leb, length}
-use Rattle.std.proofs.Common.{sym, ap, ◌∙◌}
+use Rattle.std.proofs.Common.{sym, ◌∙◌}
 use Rattle.chain.specs.Refusals.{test, or_else}
 use Rattle.chain.specs.declared.Refusal.{Refusal}
 use Rattle.chain.specs.declared.Chain.{Chain}
@@ -19,21 +19,20 @@ use Rattle.state.specs.declared.Run.{Run}
 use Rattle.slots.specs.Chains.{AlikeChains}
 use Rattle.slots.proofs.ChainsLaws.{analyse_alike}
 use Rattle.slots.specs.Runs.{AlikeRuns, Whole}
-use Rattle.instants.specs.Checks.{longest, length_check}
-use Rattle.losses.specs.Losses.{empty_losses, entry_at, empty_slots, listed_empty, Extends, extends_refl}
+use Rattle.instants.specs.Checks.{longest}
+use Rattle.losses.specs.Losses.{empty_losses, entry_at, empty_slots, listed_empty, Extends}
 use Rattle.losses.specs.declared.Losses.{Losses}
 use Rattle.recordings.specs.Steps.{rec_tick}
 use Rattle.recordings.specs.Traced.{rec_run}
 use Rattle.recordings.specs.Answers.{rec_tick_refusal, rec_run_refusal, rec_answer_of, rec_tick_answer, rec_run_answer}
-use Rattle.recordings.proofs.RecRefusalsLaws.{rec_tick_parts, rec_run_parts}
+use Rattle.recordings.proofs.RecRefusalsLaws.{rec_tick_parts}
 use Rattle.recordings.specs.declared.RecordOutcome.{RecordOutcome}
 use Rattle.recordings.specs.declared.RecordOutcome.TheVariants.{Clean}
 use Rattle.recordings.specs.declared.Recorded.{Recorded}
-use Rattle.recordings.specs.declared.RecordAnswer.{RecordAnswer}
 use Rattle.tickslots.specs.Slots.{KeptSlots}
-use Rattle.tickslots.proofs.SlotsLaws.{states_of, states_refl, runs_of, kept_refl, kept_whole}
+use Rattle.tickslots.proofs.SlotsLaws.{states_of, states_refl, runs_of, kept_whole}
 use Rattle.tickslots.specs.Alike.{spent_alike}
-use Rattle.recordslots.specs.Lists.{AlikeLosses, AlikeRecorded, KeptRecorded}
+use Rattle.recordslots.specs.Lists.{AlikeLosses, AlikeRecorded}
 use Rattle.recordslots.proofs.ListsLaws.{losses_refl}
 use Rattle.recordslots.proofs.AlikeLaws.{rec_tick_alike}
 use Rattle.recordslots.proofs.KeptLaws.{rec_tick_kept, rec_instants_kept}

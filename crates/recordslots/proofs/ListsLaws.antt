@@ -15,16 +15,15 @@ use Rattle.std.proofs.Common.{sym, ap, ◌∙◌, arith, ext_get_or}
 use Rattle.std.proofs.Math.Logic.{by_cases}
 use Rattle.std.proofs.Math.Decide.{ℕ_discrete, dec_lt}
 use Rattle.state.specs.declared.Run.{Run}
-use Rattle.losses.specs.Losses.{loss, no_loss, entry_at, noted, Extends, extends_refl, extends_trans}
+use Rattle.losses.specs.Losses.{loss, no_loss, entry_at, noted, Extends}
 use Rattle.losses.proofs.LossesLaws.{extends_noted}
 use Rattle.losses.specs.declared.Losses.{Losses}
 use Rattle.recordings.specs.Steps.{rec_clean, rec_goes, rec_onward}
-use Rattle.recordings.proofs.RunsLaws.{rec_onward_elim}
 use Rattle.recordings.specs.declared.RecordOutcome.{RecordOutcome}
 use Rattle.recordings.specs.declared.RecordOutcome.TheVariants.{Clean, NoDeadline, ListFull}
 use Rattle.recordings.specs.declared.Recorded.{Recorded}
-use Rattle.tickslots.specs.Slots.{set_same, AlikeStates, KeptSlots}
-use Rattle.tickslots.proofs.SlotsLaws.{kept_trans, same_state}
+use Rattle.tickslots.specs.Slots.{set_same, AlikeStates}
+use Rattle.tickslots.proofs.SlotsLaws.{same_state}
 use Rattle.recordslots.specs.Lists.{AlikeLosses, AlikeRecorded, KeptRecorded}
 
 -- lists of as many slots with the same entries are alike, whatever stands in the other slots

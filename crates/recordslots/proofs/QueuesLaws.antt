@@ -3,7 +3,7 @@
 --                            the steps of a tick that can overflow one
 use Rattle.std.specs.Prelude.{◌≡◌, refl, Bool, cond}
 use Rattle.std.proofs.Math.Bool.{true, false}
-use Prim.Native.Nat.{ℕ, zero, suc, ◌<◌}
+use Prim.Native.Nat.{ℕ, zero, suc}
 use Rattle.std.proofs.Common.{arith}
 use Rattle.chain.specs.declared.Chain.{Chain}
 use Rattle.state.specs.Fired.{fired}
@@ -11,8 +11,6 @@ use Rattle.state.specs.Checks.{cramped}
 use Rattle.state.proofs.ChecksLaws.{cramped_is}
 use Rattle.state.specs.declared.Run.{Run}
 use Rattle.instants.specs.Steps.{clean, overflowed, with_done, divides, sourced, ended, finish, finished}
-use Rattle.instants.specs.declared.Outcome.{Outcome}
-use Rattle.instants.specs.declared.Outcome.TheVariants.{Clean, Overflowed, NoDeadline}
 use Rattle.recordslots.specs.Queues.{Queued}
 
 module _ (c : Chain) (s : Run) where

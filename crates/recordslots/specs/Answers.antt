@@ -3,31 +3,25 @@
 --   rec-tick-refusal-, rec_run_refusal_alike
 --                            chains, states and lists that differ in such slots only are refused alike
 --   AlikeRecordAnswers n x y answers that are the same but for slots past n of the state, and past the count of the list
-use Rattle.std.specs.Prelude.{◌≡◌, refl, Bool, true, false, cond, ℕ, ◌≤◌, eqb, leb, length}
+use Rattle.std.specs.Prelude.{◌≡◌, Bool, true, false, cond, ℕ, eqb}
 use Rattle.std.proofs.Common.{sym, ap, ◌∙◌}
-use Rattle.chain.specs.Refusals.{test, or_else}
+use Rattle.chain.specs.Refusals.{or_else}
 use Rattle.chain.specs.declared.Refusal.{Refusal}
 use Rattle.chain.specs.declared.Chain.{Chain}
-use Rattle.state.specs.State.{empty_run, fresh_empty}
 use Rattle.state.specs.declared.Run.{Run}
 use Rattle.slots.specs.Chains.{AlikeChains}
 use Rattle.slots.proofs.ChainsLaws.{analyse_alike}
-use Rattle.slots.specs.Runs.{AlikeRuns, Whole}
-use Rattle.instants.specs.Checks.{longest, length_check}
-use Rattle.losses.specs.Losses.{empty_losses, entry_at, empty_slots, listed_empty, Extends, extends_refl}
+use Rattle.slots.specs.Runs.{AlikeRuns}
+use Rattle.instants.specs.Checks.{length_check}
+use Rattle.losses.specs.Losses.{Extends, extends_refl}
 use Rattle.losses.specs.declared.Losses.{Losses}
-use Rattle.recordings.specs.Steps.{rec_tick}
-use Rattle.recordings.specs.Traced.{rec_run}
-use Rattle.recordings.specs.Answers.{rec_tick_refusal, rec_run_refusal, rec_answer_of, rec_tick_answer, rec_run_answer}
-use Rattle.recordings.proofs.RecRefusalsLaws.{rec_tick_parts, rec_run_parts}
-use Rattle.recordings.specs.declared.RecordOutcome.{RecordOutcome}
-use Rattle.recordings.specs.declared.RecordOutcome.TheVariants.{Clean}
+use Rattle.recordings.specs.Answers.{rec_run_refusal, rec_answer_of}
+use Rattle.recordings.proofs.RecRefusalsLaws.{rec_run_parts}
 use Rattle.recordings.specs.declared.Recorded.{Recorded}
 use Rattle.recordings.specs.declared.RecordAnswer.{RecordAnswer}
 use Rattle.tickslots.specs.Slots.{KeptSlots}
-use Rattle.tickslots.proofs.SlotsLaws.{states_of, states_refl, runs_of, kept_refl, kept_whole}
-use Rattle.tickslots.specs.Alike.{spent_alike}
-use Rattle.recordslots.specs.Lists.{AlikeLosses, AlikeRecorded, KeptRecorded}
+use Rattle.tickslots.proofs.SlotsLaws.{kept_refl}
+use Rattle.recordslots.specs.Lists.{AlikeLosses, KeptRecorded}
 
 -- nor of a run
 pub rec_run_refusal_alike : {c d : Chain} → AlikeChains c d → (T : ℕ) → rec_run_refusal c T ≡ rec_run_refusal d T

@@ -10,21 +10,15 @@
 --   rec_alike_onward, rec_kept_onward
 --                            one thing after the other
 --   rec_kept_then            what is kept from a state and a list that were kept themselves
-use Rattle.std.specs.Prelude.{◌≡◌, refl, Bool, true, false, cond, ℕ, ◌+◌, ◌<◌, length}
-use Rattle.std.proofs.Common.{sym, ap, ◌∙◌, arith, ext_get_or}
-use Rattle.std.proofs.Math.Logic.{by_cases}
-use Rattle.std.proofs.Math.Decide.{ℕ_discrete, dec_lt}
+use Rattle.std.specs.Prelude.{◌≡◌, Bool, true, false, cond, ℕ, ◌<◌, length}
 use Rattle.state.specs.declared.Run.{Run}
-use Rattle.losses.specs.Losses.{loss, no_loss, entry_at, noted, Extends, extends_refl, extends_trans}
-use Rattle.losses.proofs.LossesLaws.{extends_noted}
+use Rattle.losses.specs.Losses.{entry_at, Extends, extends_refl, extends_trans}
 use Rattle.losses.specs.declared.Losses.{Losses}
-use Rattle.recordings.specs.Steps.{rec_clean, rec_goes, rec_onward}
+use Rattle.recordings.specs.Steps.{rec_clean, rec_onward}
 use Rattle.recordings.proofs.RunsLaws.{rec_onward_elim}
-use Rattle.recordings.specs.declared.RecordOutcome.{RecordOutcome}
-use Rattle.recordings.specs.declared.RecordOutcome.TheVariants.{Clean, NoDeadline, ListFull}
 use Rattle.recordings.specs.declared.Recorded.{Recorded}
-use Rattle.tickslots.specs.Slots.{set_same, AlikeStates, KeptSlots}
-use Rattle.tickslots.proofs.SlotsLaws.{kept_trans, same_state}
+use Rattle.tickslots.specs.Slots.{AlikeStates, KeptSlots}
+use Rattle.tickslots.proofs.SlotsLaws.{kept_trans}
 
 -- two lists that have the same entries, and as many slots
 pub record AlikeLosses (l m : Losses) : Type 0 where

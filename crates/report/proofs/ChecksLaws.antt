@@ -7,20 +7,17 @@ use Rattle.std.specs.Prelude.{◌≡◌, ◌↔◌, List, [], ◌∷◌, ◌++�
 use Rattle.std.proofs.Common.{ap, ◌∙◌, arith}
 use Rattle.std.proofs.Math.Logic.{true-and}
 use Rattle.chain.specs.Tests.{Out}
-use Rattle.chain.specs.Refusals.{Silents, Numbered, refused, fine, first, or_else, first_append, numbered_append}
+use Rattle.chain.specs.Refusals.{Silents, Numbered, refused, fine, or_else, first_append, numbered_append}
 use Rattle.chain.proofs.RefusalsLaws.{exact_at}
 use Rattle.chain.specs.Checks.{count_check, fields, FirstOut, FirstOver}
 use Rattle.chain.proofs.ChecksLaws.{count_exact, range_exact, order_exact}
-use Rattle.chain.specs.declared.Refusal.{Refusal}
 use Rattle.chainfile.specs.File.{count_of, queues_at, nodes_at, chain_of, length_check, file_offsets, file_range, read_checks}
 use Rattle.chainfile.specs.File.{read_refusal, BadLength, BadTables, length_exact, read_numbers}
 use Rattle.chainfile.proofs.FileLaws.{offset_exact, read_numbered}
 use Rattle.chainfile.specs.Packed.{room_check, room_exact, room_only, room_last}
-use Rattle.sizing.specs.Load.{busy_in, busy_of, cycle_of}
-use Rattle.sizing.specs.Sizes.{analysis_of}
+use Rattle.sizing.specs.Load.{busy_of, cycle_of}
 use Rattle.sizing.specs.Checks.{rate_check, size_checks, FirstTooLarge}
 use Rattle.sizing.proofs.ChecksLaws.{rate_exact, load_exact, rate_only, load_only}
-use Rattle.reporttext.specs.Text.{text_of}
 use Rattle.report.specs.Checks.{report_text, report_checks, report_refusal, report_numbers, size_refusal}
 
 pub report_numbered : (f : List ℕ) (room : ℕ) → Numbered report_numbers (report_checks f room)

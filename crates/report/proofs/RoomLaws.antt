@@ -1,21 +1,18 @@
 -- Lent bytes that are always enough.
 --   report_room    with room for the longest report the report call never says 10
 --   report_roomy   with that room the report call says what these say
-use Rattle.std.specs.Prelude.{◌≡◌, List, ℕ, ◌^◌, ◌≤◌, ◌<◌}
+use Rattle.std.specs.Prelude.{◌≡◌, List, ℕ, ◌≤◌}
 use Rattle.std.proofs.Math.Path.{refl, sym}
 use Rattle.std.proofs.Common.{◌∙◌, arith, le-ltb}
 use Rattle.std.proofs.Math.Logic.{by_cases}
 use Rattle.std.proofs.Math.Decide.{ℕ_discrete}
 use Rattle.std.proofs.Math.ListN.{length}
 use Rattle.chain.specs.Refusals.{refused, fine, or_else, Silent, Silents, first_silent, first_fine, or_left, or_right}
-use Rattle.chain.specs.declared.Refusal.{Refusal}
 use Rattle.chainfile.specs.File.{chain_of, read_checks, read_refusal}
 use Rattle.chainfile.proofs.AcceptedLaws.{read_accepts}
 use Rattle.chainfile.specs.Packed.{room_check}
 use Rattle.sizing.specs.Checks.{size_checks}
 use Rattle.sizing.proofs.AcceptedLaws.{size_accepts}
-use Rattle.reporttext.specs.Refused.{refusal_text, longest_refusal}
-use Rattle.reporttext.proofs.RefusedLaws.{refusal_short}
 use Rattle.reporttext.specs.Short.{longest_report}
 use Rattle.reporttext.proofs.ShortLaws.{report_short}
 use Rattle.report.specs.Checks.{report_text, report_refusal, size_refusal}

@@ -3,24 +3,15 @@
 --   report_checks f room   the call's checks, in order: the reader's, then 6 and 7, then 10
 --   report_refusal f room  what the call refuses f with, the lent output being `room` bytes long
 --   size_refusal f         what 6 and 7 refuse of the chain that f says
-use Rattle.std.proofs.Math.Logic.Iff
-use Rattle.std.specs.Prelude.{◌≡◌, ◌↔◌, List, [], ◌∷◌, ◌++◌, ℕ, ◌<◌, length, get_or, take}
-use Rattle.std.proofs.Common.{ap, ◌∙◌, arith}
-use Rattle.std.proofs.Math.Logic.{true-and}
-use Rattle.chain.specs.Tests.{Out}
-use Rattle.chain.specs.Refusals.{Silents, Numbered, refused, fine, first, or_else, first_append, numbered_append}
-use Rattle.chain.proofs.RefusalsLaws.{exact_at}
-use Rattle.chain.specs.Checks.{count_check, fields, FirstOut, FirstOver}
-use Rattle.chain.proofs.ChecksLaws.{count_exact, range_exact, order_exact}
+use Rattle.std.specs.Prelude.{List, [], ◌∷◌, ◌++◌, ℕ, length}
+use Rattle.chain.specs.Refusals.{first}
 use Rattle.chain.specs.declared.Refusal.{Refusal}
-use Rattle.chainfile.specs.File.{count_of, queues_at, nodes_at, chain_of, length_check, file_offsets, file_range, read_checks}
-use Rattle.chainfile.specs.File.{read_refusal, BadLength, BadTables, length_exact, read_numbers}
-use Rattle.chainfile.proofs.FileLaws.{offset_exact, read_numbered}
-use Rattle.chainfile.specs.Packed.{room_check, room_exact, room_only, room_last}
-use Rattle.sizing.specs.Load.{busy_in, busy_of, cycle_of}
+use Rattle.chainfile.specs.File.{chain_of, read_checks}
+use Rattle.chainfile.specs.File.{read_refusal, read_numbers}
+use Rattle.chainfile.specs.Packed.{room_check}
+use Rattle.sizing.specs.Load.{busy_in}
 use Rattle.sizing.specs.Sizes.{analysis_of}
-use Rattle.sizing.specs.Checks.{rate_check, size_checks, FirstTooLarge}
-use Rattle.sizing.proofs.ChecksLaws.{rate_exact, load_exact, rate_only, load_only}
+use Rattle.sizing.specs.Checks.{rate_check, size_checks}
 use Rattle.reporttext.specs.Text.{text_of}
 
 -- the report of a file

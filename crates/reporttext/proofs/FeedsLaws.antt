@@ -1,16 +1,12 @@
 -- "Each line ended by one line feed" (01, Report program).
 --   report_feeds       a report of n queues has n + 2
-use Rattle.std.specs.Prelude.{◌≡◌, refl, List, [], ◌∷◌, ◌++◌, ℕ, zero, suc, ◌+◌, ◌-◌, get_or, take}
-use Rattle.std.proofs.Common.{sym, ap, ◌∙◌, append_assoc, arith}
+use Rattle.std.specs.Prelude.{◌≡◌, refl, ◌++◌, ℕ, zero, suc, ◌+◌, get_or}
+use Rattle.std.proofs.Common.{arith}
 use Rattle.words.specs.Flat.{flat}
-use Rattle.decimal.specs.Digits.{decimal, column}
-use Rattle.decimal.specs.Signed.{integer}
 use Rattle.sizing.specs.Sizes.{no_size}
-use Rattle.sizing.specs.declared.QueueSize.{QueueSize}
 use Rattle.sizing.specs.declared.Analysis.{Analysis}
-use Rattle.reporttext.specs.Occurrences.{occurrences, Without, occurrences_append, without_append, without_decimal, without_integer}
-use Rattle.reporttext.specs.Text.{heading, heading_length, columns, numbers, line, lines, busy_word, busy_line, text_of}
-use Rattle.reporttext.specs.Refused.{refusal_word, refusal_text}
+use Rattle.reporttext.specs.Occurrences.{occurrences, occurrences_append}
+use Rattle.reporttext.specs.Text.{heading, line, lines, busy_line, text_of}
 use Rattle.reporttext.specs.Feeds.{feeds, queue_one, busy_one, heading_one, one_feed}
 
 lines_feeds : (a : Analysis) (i : ℕ) → feeds (lines a i) ≡ i

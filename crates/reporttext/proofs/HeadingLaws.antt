@@ -2,10 +2,7 @@
 --   headed_true     that is so exactly where its first bytes are that line
 --   first_line_law  it is the first line of every report
 --   report_headed   a report with anything behind it begins with it
-use Rattle.std.proofs.Math.Logic.Iff
-use Rattle.std.specs.Prelude.{◌≡◌, refl, Bool, true, false, ◌&&◌, ◌↔◌, List, [], ◌∷◌, ◌++◌, ℕ, eqb, length, get_or, take, drop}
-use Rattle.std.proofs.Common.{sym, ap, ap₂, true≢false, arith, eq-eqb, eqb-true}
-use Rattle.chain.specs.Tests.{and_true}
+use Rattle.std.specs.Prelude.{◌≡◌, refl, true, ◌↔◌, List, ◌++◌, ℕ, take}
 use Rattle.sizing.specs.declared.Analysis.{Analysis}
 use Rattle.reporttext.specs.Text.{heading, heading_length, text_of}
 use Rattle.reporttext.specs.Heading.{begins_true, headed}

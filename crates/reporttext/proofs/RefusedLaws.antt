@@ -1,11 +1,9 @@
 -- The line of a refusal (01, Report program: "a refusal prints only the line `refused,number,place`").
 --   refusal_short     it has no more
-use Rattle.std.specs.Prelude.{List, ◌++◌, ℕ, ◌+◌, ◌*◌, ◌^◌, ◌≤◌, ◌<◌, length}
+use Rattle.std.specs.Prelude.{ℕ, ◌^◌, ◌≤◌, ◌<◌, length}
 use Rattle.std.proofs.Common.{arith, length-append}
-use Rattle.words.specs.Literal.{text}
 use Rattle.decimal.specs.Digits.{column}
 use Rattle.decimal.proofs.DigitsLaws.{column_word}
-use Rattle.reporttext.specs.Short.{longest_column}
 use Rattle.reporttext.specs.Refused.{refusal_text, longest_refusal}
 
 pub refusal_short : (N L : ℕ) → N < 2 ^ 32 → L < 2 ^ 32 → length (refusal_text N L) ≤ longest_refusal

@@ -1,8 +1,8 @@
 -- How long a report can be.
 --   line_short       a queue's line has no more
 --   report_short     the report of an accepted chain has no more
-use Rattle.std.specs.Prelude.{List, [], ◌∷◌, ◌++◌, get_or}
-use Prim.Native.Nat.{ℕ, zero, suc, ◌+◌, ◌*◌, ◌^◌, ◌≤◌, ◌<◌}
+use Rattle.std.specs.Prelude.{[], ◌∷◌, ◌++◌, get_or}
+use Prim.Native.Nat.{ℕ, zero, suc, ◌*◌, ◌^◌, ◌≤◌, ◌<◌}
 use native.Mathlib.Omega.{arith}
 use Rattle.std.proofs.Common.{rules}
 use Rattle.std.proofs.Math.ListN.{length, length-append}
@@ -18,7 +18,7 @@ use Rattle.sizing.proofs.SizesLaws.{size_at}
 use Rattle.sizing.specs.Accepted.{Accepted, SizeFits}
 use Rattle.sizing.proofs.AcceptedLaws.{size_fits, busy_fits, cycle_fits}
 use Rattle.sizing.specs.declared.QueueSize.{QueueSize}
-use Rattle.reporttext.specs.Text.{heading_length, columns, column_count, numbers, line, lines, busy_word, busy_line, text_of}
+use Rattle.reporttext.specs.Text.{columns, numbers, line, lines, busy_line, text_of}
 use Rattle.reporttext.specs.Short.{Words, numbers_short, longest_line, longest_busy_line, longest_report}
 
 columns_words : (i : ℕ) (q : QueueSize) → i < 2 ^ 32 → SizeFits q → Words (columns i q)

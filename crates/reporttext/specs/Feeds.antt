@@ -6,16 +6,14 @@
 --                      a number with its comma has none, nor have such numbers in a row
 --   heading-, queue-, busy-, refusal_one
 --                      each line of a report is one, and that of a refusal
-use Rattle.std.specs.Prelude.{◌≡◌, refl, List, [], ◌∷◌, ◌++◌, ℕ, zero, suc, ◌+◌, ◌-◌, get_or, take}
+use Rattle.std.specs.Prelude.{◌≡◌, refl, List, [], ◌∷◌, ◌++◌, ℕ, ◌-◌, take}
 use Rattle.std.proofs.Common.{sym, ap, ◌∙◌, append_assoc, arith}
-use Rattle.words.specs.Flat.{flat}
 use Rattle.decimal.specs.Digits.{decimal, column}
 use Rattle.decimal.specs.Signed.{integer}
-use Rattle.sizing.specs.Sizes.{no_size}
 use Rattle.sizing.specs.declared.QueueSize.{QueueSize}
 use Rattle.sizing.specs.declared.Analysis.{Analysis}
 use Rattle.reporttext.specs.Occurrences.{occurrences, Without, occurrences_append, without_append, without_decimal, without_integer}
-use Rattle.reporttext.specs.Text.{heading, heading_length, columns, numbers, line, lines, busy_word, busy_line, text_of}
+use Rattle.reporttext.specs.Text.{heading, heading_length, columns, numbers, line, busy_word, busy_line}
 use Rattle.reporttext.specs.Refused.{refusal_word, refusal_text}
 
 -- how many bytes are a line feed (10)

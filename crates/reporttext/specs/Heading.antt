@@ -3,11 +3,10 @@
 --   begins_true     that is so exactly where the first bytes of t are s
 --   headed t        the text t begins with a report's first line
 use Rattle.std.proofs.Math.Logic.Iff
-use Rattle.std.specs.Prelude.{◌≡◌, refl, Bool, true, false, ◌&&◌, ◌↔◌, List, [], ◌∷◌, ◌++◌, ℕ, eqb, length, get_or, take, drop}
+use Rattle.std.specs.Prelude.{◌≡◌, refl, Bool, true, false, ◌&&◌, ◌↔◌, List, [], ◌∷◌, ℕ, eqb, length, get_or, take, drop}
 use Rattle.std.proofs.Common.{sym, ap, ap₂, true≢false, arith, eq-eqb, eqb-true}
 use Rattle.chain.specs.Tests.{and_true}
-use Rattle.sizing.specs.declared.Analysis.{Analysis}
-use Rattle.reporttext.specs.Text.{heading, heading_length, text_of}
+use Rattle.reporttext.specs.Text.{heading}
 
 -- a text begins with another
 unfoldable pub begins : List ℕ → List ℕ → Bool

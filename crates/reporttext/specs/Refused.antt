@@ -2,11 +2,9 @@
 --   refusal_word      `refused,`
 --   refusal_text N L  the line's bytes
 --   longest_refusal   bytes enough for every such line
-use Rattle.std.specs.Prelude.{List, ◌++◌, ℕ, ◌+◌, ◌*◌, ◌^◌, ◌≤◌, ◌<◌, length}
-use Rattle.std.proofs.Common.{arith, length-append}
+use Rattle.std.specs.Prelude.{List, ◌++◌, ℕ, ◌+◌, ◌*◌, length}
 use Rattle.words.specs.Literal.{text}
 use Rattle.decimal.specs.Digits.{column}
-use Rattle.decimal.proofs.DigitsLaws.{column_word}
 use Rattle.reporttext.specs.Short.{longest_column}
 
 abbrev pub refusal_word : List ℕ

@@ -5,24 +5,13 @@
 --   longest_busy_line  bytes enough for every last line
 --   longest_report   bytes enough for every report
 --   LinesFit         what the code of the writer asks: few queues, and room
-use Rattle.std.specs.Prelude.{List, [], ◌∷◌, ◌++◌, get_or}
-use Prim.Native.Nat.{ℕ, zero, suc, ◌+◌, ◌*◌, ◌^◌, ◌≤◌, ◌<◌}
+use Rattle.std.specs.Prelude.{List, [], ◌∷◌}
+use Prim.Native.Nat.{ℕ, ◌+◌, ◌*◌, ◌^◌, ◌≤◌, ◌<◌}
 use native.Mathlib.Omega.{arith}
-use Rattle.std.proofs.Common.{rules}
 use Rattle.std.proofs.Math.ListN.{length, length-append}
-use Rattle.words.specs.Flat.{flat}
 use Rattle.decimal.specs.Digits.{column}
 use Rattle.decimal.proofs.DigitsLaws.{column_word}
-use Rattle.decimal.specs.Signed.{integer}
-use Rattle.decimal.proofs.SignedLaws.{integer_word}
-use Rattle.chain.specs.declared.Chain.{Chain}
-use Rattle.sizing.specs.Load.{busy_of, cycle_of}
-use Rattle.sizing.specs.Sizes.{no_size, size_of, analysis_of}
-use Rattle.sizing.proofs.SizesLaws.{size_at}
-use Rattle.sizing.specs.Accepted.{Accepted, SizeFits}
-use Rattle.sizing.proofs.AcceptedLaws.{size_fits, busy_fits, cycle_fits}
-use Rattle.sizing.specs.declared.QueueSize.{QueueSize}
-use Rattle.reporttext.specs.Text.{heading_length, columns, column_count, numbers, line, lines, busy_word, busy_line, text_of}
+use Rattle.reporttext.specs.Text.{heading_length, column_count, numbers, busy_word}
 
 -- a text of at most k bytes
 pub record AtMost (k : ℕ) (t : List ℕ) : Type 0 where

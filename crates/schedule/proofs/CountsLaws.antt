@@ -5,7 +5,7 @@
 --   rates                    m times as many source firings more give N_i m times x_i firings more
 --   rate                     "for a node that has fired by k, k + y_i/y firings of the source give it x_i firings more"
 use Rattle.std.specs.Prelude.{◌≡◌, refl, [], ◌∷◌, map}
-use Rattle.std.proofs.Common.{sym, ◌∙◌, mul-le-mul_left, mul-zero, one-mul, mul_assoc, arith}
+use Rattle.std.proofs.Common.{sym, ◌∙◌, mul-le-mul_left, one-mul, mul_assoc, arith}
 use Rattle.std.proofs.Math.Path.{ap}
 use Prim.Native.Nat.{ℕ, zero, suc, ◌+◌, ◌*◌, ◌/◌, ◌≤◌, ◌<◌}
 use Rattle.std.proofs.Math.Nat.{mul-div_assoc, mul-div_cancel}

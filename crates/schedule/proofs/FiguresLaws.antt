@@ -3,7 +3,6 @@
 --   flush_counts             the counts of Flush's nodes after 32 firings of the source
 use Rattle.std.specs.Prelude.{◌≡◌, refl, [], ◌∷◌, map}
 use Rattle.chain.specs.Factory.{factory_answer}
-use Rattle.chain.specs.declared.Chain.{Chain}
 use Rattle.schedule.specs.Counts.{F}
 use Rattle.schedule.specs.Schedule.{schedule}
 use Rattle.schedule.specs.Figures.{permeate, flush}

@@ -4,27 +4,20 @@
 --   same_counts              two of these states with the same counts are the same
 --   one_state                so a calm state is known by the source's count
 --   below_minimum            a queue below threshold has room for one production within its minimum
-use Rattle.std.specs.Prelude.{◌≡◌, cond, List, [], ◌∷◌, ltb, length, get_or, replicate}
+use Rattle.std.specs.Prelude.{◌≡◌}
 use Rattle.std.proofs.Math.Path.{refl, ap}
-use Rattle.std.proofs.Common.{sym, ◌∙◌, mul-zero, arith, ext_get_or}
+use Rattle.std.proofs.Common.{sym, ◌∙◌, arith, ext_get_or}
 use Rattle.std.proofs.Math.Logic.{by_cases}
-use Prim.Native.Nat.{ℕ, zero, suc, ◌+◌, ◌*◌, ◌≤◌, ◌<◌}
-use Rattle.std.proofs.Math.Decide.{ℕ_discrete, dec_lt, dec_le}
-use Rattle.std.proofs.lemmas.List.{length-replicate}
-use Rattle.std.proofs.Math.ListN.{get_or-eq_default}
-use Rattle.words.specs.Table.{slots, length_tab, slot_free}
+use Prim.Native.Nat.{ℕ, zero, suc, ◌+◌, ◌≤◌, ◌<◌}
+use Rattle.std.proofs.Math.Decide.{dec_lt, dec_le}
 use Rattle.chain.specs.Record.{row_of}
 use Rattle.chain.specs.Sound.{Sound}
 use Rattle.chain.specs.declared.Chain.{Chain}
 use Rattle.events.proofs.CountsLaws.{fires_is}
 use Rattle.events.specs.Peak.{room}
-use Rattle.sizing.specs.Sizes.{start, minimum_of}
-use Rattle.state.specs.State.{count_at, held_at, done_at, fresh_run, zeros, fresh_count, fresh_held, same_run}
-use Rattle.state.specs.Fired.{fired, Over, over_enough, Balance, Slots}
-use Rattle.state.proofs.FiredLaws.{counts_length, holds_length, count_fired, count_other, held_sink, balance_kept}
-use Rattle.state.proofs.FireLaws.{fire_accepts}
+use Rattle.sizing.specs.Sizes.{minimum_of}
+use Rattle.state.specs.State.{count_at, held_at, same_run}
 use Rattle.state.specs.declared.Run.{Run}
-use Rattle.history.specs.History.{after, Permitted, EachFiring}
 use Rattle.schedule.specs.Counts.{fed, F}
 use Rattle.schedule.specs.Reached.{Reached, Calm, held_alike}
 

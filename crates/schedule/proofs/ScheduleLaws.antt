@@ -13,31 +13,28 @@
 --                            so manual firing accepts each of its firings in turn, the capacities being enough and the counts within the limit
 --   any_order                any permitted order that ends so leads to the schedule's state
 use Rattle.std.specs.Prelude.{◌≡◌, refl, ◌≢◌, List, [], ◌∷◌, ◌++◌, length}
-use Rattle.std.proofs.Common.{sym, ap₂, subst, ◌∙◌, append-nil, append_assoc, le_refl, le_trans, lt_of_not-le, add-zero, zero-add}
+use Rattle.std.proofs.Common.{sym, ap₂, subst, ◌∙◌, le_refl, le_trans, lt_of_not-le, zero-add}
 use Rattle.std.proofs.Math.Path.{ap}
 use Rattle.std.proofs.Math.Logic.{by_cases}
-use Prim.Native.Nat.{ℕ, zero, suc, ◌+◌, ◌-◌, ◌*◌, ◌≤◌, ◌<◌}
+use Prim.Native.Nat.{ℕ, zero, suc, ◌+◌, ◌-◌, ◌≤◌, ◌<◌}
 use Rattle.std.proofs.Math.Decide.{ℕ_discrete, dec_le}
 use native.Mathlib.Omega.{arith}
 use Rattle.chain.specs.Record.{row_of}
 use Rattle.chain.specs.Sound.{Sound}
 use Rattle.chain.specs.Factory.{factory_answer}
 use Rattle.chain.specs.declared.Chain.{Chain}
-use Rattle.onequeue.proofs.LeastLaws.{minimum_threshold}
-use Rattle.events.specs.Counts.{fires}
-use Rattle.events.proofs.CountsLaws.{fires_reach, fires_settles}
-use Rattle.sizing.specs.Sizes.{start, minimum_of, capacity_of}
+use Rattle.sizing.specs.Sizes.{minimum_of, capacity_of}
 use Rattle.sizing.specs.Checks.{limit, Enough}
 use Rattle.sizing.proofs.ChecksLaws.{enough_capacity}
 use Rattle.sizing.specs.Accepted.{Accepted}
-use Rattle.state.specs.State.{count_at, held_at, fresh_run, fresh_count, fresh_held}
-use Rattle.state.specs.Fired.{fired, Over, over_enough}
+use Rattle.state.specs.State.{count_at, held_at, fresh_run, fresh_count}
+use Rattle.state.specs.Fired.{fired, over_enough}
 use Rattle.state.proofs.FiredLaws.{counts_length, count_fired, count_other, held_output, held_input, held_other}
 use Rattle.state.specs.Fire.{Firing}
 use Rattle.state.proofs.FireLaws.{firing_is}
 use Rattle.state.specs.declared.Run.{Run}
 use Rattle.history.specs.History.{times, after, Permitted, Prompt, after_append, EachFiring, each_append}
-use Rattle.history.proofs.QueuesLaws.{times_again, times_other}
+use Rattle.history.proofs.QueuesLaws.{times_again}
 use Rattle.history.proofs.Laws.{counted_from}
 use Rattle.schedule.specs.Counts.{fed, F}
 use Rattle.schedule.proofs.CountsLaws.{fed_mono}

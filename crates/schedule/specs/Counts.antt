@@ -3,20 +3,14 @@
 --   fed c i N                how often N_(i+1) has fired where N_i has fired N times and queue i is below threshold: one step of F
 --   F c k i                  how often N_i has fired after k firings of the source
 --   turns_of c i             y_i/y: how many firings of the source N_i's cycle has; turns_source, turns_next: node by node
-use Rattle.std.specs.Prelude.{◌≡◌, refl, [], ◌∷◌, map}
-use Rattle.std.proofs.Common.{sym, ◌∙◌, mul-le-mul_left, mul-zero, one-mul, mul_assoc, arith}
+use Rattle.std.specs.Prelude.{◌≡◌}
+use Rattle.std.proofs.Common.{mul-zero, arith}
 use Rattle.std.proofs.Math.Path.{ap}
 use Prim.Native.Nat.{ℕ, zero, suc, ◌+◌, ◌*◌, ◌/◌, ◌≤◌, ◌<◌}
-use Rattle.std.proofs.Math.Nat.{mul-div_assoc, mul-div_cancel}
 use Rattle.chain.specs.Record.{row_of}
-use Rattle.chain.specs.Sound.{Sound}
-use Rattle.chain.specs.Factory.{factory_answer}
 use Rattle.chain.specs.declared.Chain.{Chain}
-use Rattle.rates.specs.Rates.{next_x}
-use Rattle.rates.proofs.RatesLaws.{next_balance}
 use Rattle.events.specs.Counts.{fires}
-use Rattle.events.proofs.CountsLaws.{fires_pos, fires_mono, fires_shift}
-use Rattle.sizing.specs.Nodes.{x_of, y_of, stretch_of, y_stretch, y_source}
+use Rattle.sizing.specs.Nodes.{y_of}
 use Rattle.sizing.specs.Sizes.{start}
 
 -- "0 while p×F_i is below τ, else (p×F_i − τ)/c rounded down, plus 1", of N for F_i and with what the queue starts with

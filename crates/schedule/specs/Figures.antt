@@ -1,9 +1,6 @@
 -- Immediate runs of the factory chains, each computed.
-use Rattle.std.specs.Prelude.{◌≡◌, refl, [], ◌∷◌, map}
 use Rattle.chain.specs.Factory.{factory_answer}
 use Rattle.chain.specs.declared.Chain.{Chain}
-use Rattle.schedule.specs.Counts.{F}
-use Rattle.schedule.specs.Schedule.{schedule}
 
 -- the factory chain 1
 abbrev pub permeate : Chain

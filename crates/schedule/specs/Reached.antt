@@ -10,26 +10,23 @@
 --   fresh_calm               a fresh start is calm
 use Rattle.std.specs.Prelude.{◌≡◌, cond, List, [], ◌∷◌, ltb, length, get_or, replicate}
 use Rattle.std.proofs.Math.Path.{refl, ap}
-use Rattle.std.proofs.Common.{sym, ◌∙◌, mul-zero, arith, ext_get_or}
+use Rattle.std.proofs.Common.{sym, ◌∙◌, mul-zero, arith}
 use Rattle.std.proofs.Math.Logic.{by_cases}
-use Prim.Native.Nat.{ℕ, zero, suc, ◌+◌, ◌*◌, ◌≤◌, ◌<◌}
-use Rattle.std.proofs.Math.Decide.{ℕ_discrete, dec_lt, dec_le}
+use Prim.Native.Nat.{ℕ, suc, ◌+◌, ◌*◌, ◌≤◌, ◌<◌}
+use Rattle.std.proofs.Math.Decide.{ℕ_discrete, dec_lt}
 use Rattle.std.proofs.lemmas.List.{length-replicate}
 use Rattle.std.proofs.Math.ListN.{get_or-eq_default}
 use Rattle.words.specs.Table.{slots, length_tab, slot_free}
 use Rattle.chain.specs.Record.{row_of}
 use Rattle.chain.specs.Sound.{Sound}
 use Rattle.chain.specs.declared.Chain.{Chain}
-use Rattle.events.proofs.CountsLaws.{fires_is}
-use Rattle.events.specs.Peak.{room}
-use Rattle.sizing.specs.Sizes.{start, minimum_of}
-use Rattle.state.specs.State.{count_at, held_at, done_at, fresh_run, zeros, fresh_count, fresh_held, same_run}
+use Rattle.sizing.specs.Sizes.{start}
+use Rattle.state.specs.State.{count_at, held_at, done_at, fresh_run, zeros, fresh_count, fresh_held}
 use Rattle.state.specs.Fired.{fired, Over, over_enough, Balance, Slots}
 use Rattle.state.proofs.FiredLaws.{counts_length, holds_length, count_fired, count_other, held_sink, balance_kept}
 use Rattle.state.proofs.FireLaws.{fire_accepts}
 use Rattle.state.specs.declared.Run.{Run}
 use Rattle.history.specs.History.{after, Permitted, EachFiring}
-use Rattle.schedule.specs.Counts.{fed, F}
 
 -- a state that firings lead to: "clock and work done stay 0", the slots past n are as a fresh start has them, each queue has its balance,
 -- and its consumer's last firing found τ

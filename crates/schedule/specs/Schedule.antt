@@ -9,35 +9,27 @@
 --   Ran c s i M h            what firings h by the rule leave of N_i and the nodes after it
 --   Bursts c i f, burst_runs each burst of N_i takes its count from N to N + 1 and settles the queues after it
 --   Tight c s                no queue holds more than its minimum; fresh_tight, tight-fired: by the rule none ever does
-use Rattle.std.specs.Prelude.{◌≡◌, refl, ◌≢◌, List, [], ◌∷◌, ◌++◌, length}
-use Rattle.std.proofs.Common.{sym, ap₂, subst, ◌∙◌, append-nil, append_assoc, le_refl, le_trans, lt_of_not-le, add-zero, zero-add}
+use Rattle.std.specs.Prelude.{◌≡◌, List, [], ◌∷◌, ◌++◌}
+use Rattle.std.proofs.Common.{sym, ◌∙◌, append-nil, append_assoc, add-zero}
 use Rattle.std.proofs.Math.Path.{ap}
 use Rattle.std.proofs.Math.Logic.{by_cases}
 use Prim.Native.Nat.{ℕ, zero, suc, ◌+◌, ◌-◌, ◌*◌, ◌≤◌, ◌<◌}
-use Rattle.std.proofs.Math.Decide.{ℕ_discrete, dec_le}
+use Rattle.std.proofs.Math.Decide.{ℕ_discrete}
 use native.Mathlib.Omega.{arith}
 use Rattle.chain.specs.Record.{row_of}
 use Rattle.chain.specs.Sound.{Sound}
-use Rattle.chain.specs.Factory.{factory_answer}
 use Rattle.chain.specs.declared.Chain.{Chain}
 use Rattle.onequeue.proofs.LeastLaws.{minimum_threshold}
 use Rattle.events.specs.Counts.{fires}
 use Rattle.events.proofs.CountsLaws.{fires_reach, fires_settles}
-use Rattle.sizing.specs.Sizes.{start, minimum_of, capacity_of}
-use Rattle.sizing.specs.Checks.{limit, Enough}
-use Rattle.sizing.proofs.ChecksLaws.{enough_capacity}
-use Rattle.sizing.specs.Accepted.{Accepted}
-use Rattle.state.specs.State.{count_at, held_at, fresh_run, fresh_count, fresh_held}
-use Rattle.state.specs.Fired.{fired, Over, over_enough}
-use Rattle.state.proofs.FiredLaws.{counts_length, count_fired, count_other, held_output, held_input, held_other}
-use Rattle.state.specs.Fire.{Firing}
-use Rattle.state.proofs.FireLaws.{firing_is}
+use Rattle.sizing.specs.Sizes.{start, minimum_of}
+use Rattle.state.specs.State.{count_at, held_at, fresh_run, fresh_held}
+use Rattle.state.specs.Fired.{Over}
 use Rattle.state.specs.declared.Run.{Run}
-use Rattle.history.specs.History.{times, after, Permitted, Prompt, after_append, EachFiring, each_append}
+use Rattle.history.specs.History.{times, after, EachFiring}
 use Rattle.history.proofs.QueuesLaws.{times_again, times_other}
-use Rattle.history.proofs.Laws.{counted_from}
-use Rattle.schedule.specs.Counts.{fed, F}
-use Rattle.schedule.specs.Reached.{Reached, Calm, reached_fresh, reached_fired, reached_slots, reached_done, reached_after, fresh_calm}
+use Rattle.schedule.specs.Counts.{fed}
+use Rattle.schedule.specs.Reached.{Reached, Calm}
 
 -- f at N, N + 1, .., r of them
 unfoldable pub joined : (ℕ → List ℕ) → ℕ → ℕ → List ℕ

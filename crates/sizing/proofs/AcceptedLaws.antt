@@ -9,22 +9,20 @@
 --                            65,535, capacity up to 1,000,000, and the margin between minus and plus a million
 --   busy_fits, cycle_fits    the load
 use Rattle.std.proofs.Math.Logic.Iff
-use Rattle.std.specs.Prelude.{◌≡◌, refl, Bool, true, false, cond, ◌↔◌, ℕ, zero, suc, ◌-◌, ◌≤◌, ◌<◌, ltb, pos, negsuc, nat_abs}
-use Rattle.std.proofs.Common.{sym, ap, ◌∙◌, le_trans, arith, ltb-true}
+use Rattle.std.specs.Prelude.{◌≡◌, refl, ◌↔◌, ℕ, zero, suc, ◌≤◌, ◌<◌}
+use Rattle.std.proofs.Common.{sym, ap, ◌∙◌, le_trans, arith}
 use Rattle.chain.specs.Refusals.{refused, first, Silent, Silents, silent_as, first_silent, first_fine, or_silents}
 use Rattle.chain.specs.Checks.{chain_refusal}
 use Rattle.chain.specs.Sound.{Sound}
 use Rattle.chain.proofs.SoundLaws.{sound}
 use Rattle.chain.specs.declared.Chain.{Chain}
-use Rattle.onequeue.specs.Capacity.{margin}
 use Rattle.sizing.specs.Nodes.{y_of}
 use Rattle.sizing.specs.Load.{busy_of, cycle_of}
 use Rattle.sizing.specs.Sizes.{size_by, size_of, analysis_of, sized, minimum_most, naming_most, capacity_most}
 use Rattle.sizing.proofs.SizesLaws.{sized_fine, sized_said}
-use Rattle.sizing.specs.Checks.{limit, InLimit, Enough, size_checks, analyse_checks, analyse_refusal, analyse_answer, run_refusal}
+use Rattle.sizing.specs.Checks.{limit, Enough, size_checks, analyse_checks, analyse_refusal, analyse_answer, run_refusal}
 use Rattle.sizing.specs.Checks.{run_answer, capacity_check}
 use Rattle.sizing.proofs.ChecksLaws.{analyse_parts, run_parts, rates_silent, load_silent, capacity_silent}
-use Rattle.sizing.specs.declared.QueueSize.{QueueSize}
 use Rattle.sizing.specs.declared.AnalysisAnswer.{AnalysisAnswer}
 use Rattle.sizing.specs.Accepted.{Accepted, SizeFits, margin_fits}
 

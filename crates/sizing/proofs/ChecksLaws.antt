@@ -11,8 +11,8 @@
 --   analyse_2 to analyse_7, run_8, run_earlier
 --                              when a chain is refused with each number
 use Rattle.std.proofs.Math.Logic.Iff
-use Rattle.std.specs.Prelude.{◌≡◌, refl, Bool, not, ◌||◌, ◌&&◌, ◌↔◌, ◌≢◌, ◌⊎◌, List, [], ◌∷◌, ◌++◌, eqb, get_or, take}
-use Rattle.std.proofs.Common.{sym, ◌∙◌, arith, le-ltb, eq-eqb}
+use Rattle.std.specs.Prelude.{◌≡◌, refl, Bool, not, ◌&&◌, ◌↔◌, ◌≢◌, ◌⊎◌, [], ◌∷◌, ◌++◌, eqb, get_or, take}
+use Rattle.std.proofs.Common.{sym, ◌∙◌, arith, eq-eqb}
 use Rattle.std.proofs.Math.Path.{ap}
 use Rattle.std.proofs.Math.Bool.{true, false, cond}
 use Rattle.std.proofs.Math.Logic.{⊎_elim, true-and}
@@ -25,19 +25,16 @@ use Rattle.chain.specs.Refusals.{refused, fine, test, first, or_else, first_appe
 use Rattle.chain.proofs.RefusalsLaws.{exact_at}
 use Rattle.chain.specs.Refusals.{lowest_is, Only, only_test, only_tab, test_exact, test_silent, all_silent, said_earlier, numbered_append}
 use Rattle.chain.specs.Record.{row_of}
-use Rattle.chain.specs.Checks.{count_check, range_check, order_check, record_range, chain_checks, chain_refusal, fields}
+use Rattle.chain.specs.Checks.{count_check, record_range, chain_checks, chain_refusal, fields}
 use Rattle.chain.specs.Checks.{FirstOut, FirstOver, chain_numbers}
 use Rattle.chain.proofs.ChecksLaws.{count_exact, range_exact, order_exact, chain_numbered}
-use Rattle.chain.specs.declared.Refusal.{Refusal}
 use Rattle.chain.specs.declared.Chain.{Chain}
 use Rattle.onequeue.specs.Capacity.{capacity}
 use Rattle.sizing.specs.Nodes.{x_of, y_of}
-use Rattle.sizing.specs.Load.{busy_in, busy_of, cycle_of}
-use Rattle.sizing.specs.Sizes.{minimum_of, capacity_of, no_size, size_by, analysis_of, sized}
+use Rattle.sizing.specs.Load.{busy_of, cycle_of}
+use Rattle.sizing.specs.Sizes.{minimum_of, capacity_of, size_by, analysis_of}
 use Rattle.sizing.proofs.SizesLaws.{size_at}
 use Rattle.sizing.specs.declared.QueueSize.{QueueSize}
-use Rattle.sizing.specs.declared.Analysis.{Analysis}
-use Rattle.sizing.specs.declared.AnalysisAnswer.{AnalysisAnswer}
 use Rattle.sizing.specs.Checks.{limit, too_large, rate_test, rate_check, load_check, capacity_test, capacity_check, short_test, short_in, size_checks, analyse_checks, run_checks, analyse_refusal, run_refusal, InLimit, FirstTooLarge, short_alike, Short, Enough, FirstShort, analyse_numbers, run_numbers}
 
 -- it is the largest number of 32 bits

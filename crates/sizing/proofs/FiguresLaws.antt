@@ -1,10 +1,9 @@
 -- Analyses of the factory chains, each computed.
 --   feed-, permeate-, flush_figure   P1, P2 and P3, with P6's naming counts
 --   written_figure                   P4: Permeate with capacities 12 and 5
-use Rattle.std.specs.Prelude.{◌≡◌, refl, [], ◌∷◌, pos, negsuc}
+use Rattle.std.specs.Prelude.{◌≡◌, refl, pos, negsuc}
 use Rattle.words.specs.Table.{tab}
-use Rattle.chain.specs.Factory.{queue, made, factory_answer}
-use Rattle.chain.specs.declared.Chain.{Chain}
+use Rattle.chain.specs.Factory.{factory_answer}
 use Rattle.sizing.specs.Load.{busy_in, busy_of, cycle_of}
 use Rattle.sizing.specs.Sizes.{size_by, size_of}
 use Rattle.sizing.specs.Figures.{feed, permeate, flush, written}

@@ -4,27 +4,15 @@
 --   sized_fine               an answer that is not refused
 --   sized_said               what such an answer says is the refusal that it was made of
 --   size_at                  what the analysis says of queue i
-use Rattle.std.specs.Prelude.{◌≡◌, refl, ◌≢◌, cond, ℕ, suc, ◌/◌, ◌<◌, ◌≤◌, eqb, get_or, replicate, ℤ, pos}
-use Rattle.std.proofs.Common.{ap, le_trans, arith, ne_eqb}
-use Rattle.words.specs.Table.{tab, slots, slot_used}
+use Rattle.std.specs.Prelude.{◌≡◌, ◌≢◌, ℕ, ◌<◌, ◌≤◌, get_or, pos}
+use Rattle.std.proofs.Common.{ap, arith, ne_eqb}
+use Rattle.words.specs.Table.{slot_used}
 use Rattle.words.specs.declared.Queue.{Queue}
 use Rattle.chain.specs.Refusals.{refused, fine, Silent}
-use Rattle.chain.specs.Record.{row_of}
-use Rattle.chain.specs.Sound.{SoundRow}
 use Rattle.chain.specs.declared.Refusal.{Refusal}
 use Rattle.chain.specs.declared.Chain.{Chain}
-use Rattle.arith.specs.Gcd.{gcd}
-use Rattle.onequeue.specs.Known.{Known}
-use Rattle.onequeue.specs.Least.{least}
-use Rattle.onequeue.proofs.LeastLaws.{minimum_fits, naming_fits}
-use Rattle.onequeue.specs.Capacity.{capacity, margin}
-use Rattle.onequeue.proofs.CapacityLaws.{capacity_fits, capacity_written, margin_zero}
-use Rattle.onequeue.specs.declared.Row.{Row}
-use Rattle.onequeue.specs.declared.Shown.{Shown}
-use Rattle.sizing.specs.Nodes.{x_of, y_of}
-use Rattle.sizing.specs.Load.{busy_in, busy_of, cycle_of}
-use Rattle.sizing.specs.declared.QueueSize.{QueueSize}
-use Rattle.sizing.specs.declared.Analysis.{Analysis}
+use Rattle.onequeue.specs.Capacity.{margin}
+use Rattle.onequeue.proofs.CapacityLaws.{capacity_written, margin_zero}
 use Rattle.sizing.specs.declared.AnalysisAnswer.{AnalysisAnswer}
 use Rattle.sizing.specs.Sizes.{minimum_of, margin_of, size_of, no_size, analysis_of, sized, refused_with}
 

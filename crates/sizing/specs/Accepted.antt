@@ -2,22 +2,14 @@
 --   Accepted c               sound, no rate above the limit, not overloaded: 01's accepted chain
 --   SizeFits q, size_fits    the numbers of a queue's line: x and y up to the limit, minimum up to 131,069, naming count up to
 --                            65,535, capacity up to 1,000,000, and the margin between minus and plus a million
-use Rattle.std.proofs.Math.Logic.Iff
-use Rattle.std.specs.Prelude.{◌≡◌, refl, Bool, true, false, cond, ◌↔◌, ℕ, zero, suc, ◌-◌, ◌≤◌, ◌<◌, ltb, pos, negsuc, nat_abs}
-use Rattle.std.proofs.Common.{sym, ap, ◌∙◌, le_trans, arith, ltb-true}
-use Rattle.chain.specs.Refusals.{refused, first, Silent, Silents, silent_as, first_silent, first_fine, or_silents}
-use Rattle.chain.specs.Checks.{chain_refusal}
+use Rattle.std.specs.Prelude.{◌≡◌, refl, Bool, true, false, cond, ℕ, suc, ◌-◌, ◌≤◌, ◌<◌, ltb, pos, negsuc, nat_abs}
+use Rattle.std.proofs.Common.{arith, ltb-true}
 use Rattle.chain.specs.Sound.{Sound}
-use Rattle.chain.proofs.SoundLaws.{sound}
 use Rattle.chain.specs.declared.Chain.{Chain}
 use Rattle.onequeue.specs.Capacity.{margin}
-use Rattle.sizing.specs.Nodes.{y_of}
 use Rattle.sizing.specs.Load.{busy_of, cycle_of}
-use Rattle.sizing.specs.Sizes.{size_by, size_of, analysis_of, sized, minimum_most, naming_most, capacity_most}
-use Rattle.sizing.specs.Checks.{limit, InLimit, Enough, size_checks, analyse_checks, analyse_refusal, analyse_answer, run_refusal}
-use Rattle.sizing.specs.Checks.{run_answer, capacity_check}
+use Rattle.sizing.specs.Checks.{limit, InLimit}
 use Rattle.sizing.specs.declared.QueueSize.{QueueSize}
-use Rattle.sizing.specs.declared.AnalysisAnswer.{AnalysisAnswer}
 
 -- "a chain it doesn't refuse is accepted"
 pub record Accepted (c : Chain) : Type 0 where

@@ -13,31 +13,23 @@
 --   short_test a i, short_in a  8 as an analysis shows it; short-is-capacity: which is 8 of the chain
 --   InLimit, FirstTooLarge, Short, Enough, FirstShort
 --                              01's conditions of 6 and 8, in words
-use Rattle.std.proofs.Math.Logic.Iff
-use Rattle.std.specs.Prelude.{◌≡◌, refl, Bool, not, ◌||◌, ◌&&◌, ◌↔◌, ◌≢◌, ◌⊎◌, List, [], ◌∷◌, ◌++◌, eqb, get_or, take}
-use Rattle.std.proofs.Common.{sym, ◌∙◌, arith, le-ltb, eq-eqb}
-use Rattle.std.proofs.Math.Path.{ap}
+use Rattle.std.specs.Prelude.{◌≡◌, refl, Bool, not, ◌||◌, ◌&&◌, ◌≢◌, ◌⊎◌, List, [], ◌∷◌, ◌++◌, eqb, get_or}
+use Rattle.std.proofs.Common.{le-ltb}
 use Rattle.std.proofs.Math.Bool.{true, false, cond}
-use Rattle.std.proofs.Math.Logic.{⊎_elim, true-and}
-use Prim.Native.Nat.{ℕ, zero, suc, ◌+◌, ◌*◌, ◌^◌, ◌≤◌, ◌<◌}
+use Prim.Native.Nat.{ℕ, suc, ◌≤◌, ◌<◌}
 use Rattle.std.proofs.Math.Nat.{le_refl}
 use Rattle.std.proofs.Math.Dec.{ltb}
-use Rattle.words.specs.Table.{tab, tab_alike}
-use Rattle.chain.specs.Tests.{Out, below_true, below_false, differ_true, differ_false, or_true, or_false, and_true, and_false}
-use Rattle.chain.specs.Refusals.{refused, fine, test, first, or_else, first_append, first_last, Silent, Silents, Numbered, Lowest}
-use Rattle.chain.proofs.RefusalsLaws.{exact_at}
-use Rattle.chain.specs.Refusals.{lowest_is, Only, only_test, only_tab, test_exact, test_silent, all_silent, said_earlier, numbered_append}
+use Rattle.words.specs.Table.{tab}
+use Rattle.chain.specs.Refusals.{test, first}
 use Rattle.chain.specs.Record.{row_of}
-use Rattle.chain.specs.Checks.{count_check, range_check, order_check, record_range, chain_checks, chain_refusal, fields}
-use Rattle.chain.specs.Checks.{FirstOut, FirstOver, chain_numbers}
-use Rattle.chain.proofs.ChecksLaws.{count_exact, range_exact, order_exact, chain_numbered}
+use Rattle.chain.specs.Checks.{range_check, order_check, chain_checks}
+use Rattle.chain.specs.Checks.{chain_numbers}
 use Rattle.chain.specs.declared.Refusal.{Refusal}
 use Rattle.chain.specs.declared.Chain.{Chain}
 use Rattle.onequeue.specs.Capacity.{capacity}
 use Rattle.sizing.specs.Nodes.{x_of, y_of}
 use Rattle.sizing.specs.Load.{busy_in, busy_of, cycle_of}
-use Rattle.sizing.specs.Sizes.{minimum_of, capacity_of, no_size, size_by, analysis_of, sized}
-use Rattle.sizing.specs.declared.QueueSize.{QueueSize}
+use Rattle.sizing.specs.Sizes.{minimum_of, no_size, sized}
 use Rattle.sizing.specs.declared.Analysis.{Analysis}
 use Rattle.sizing.specs.declared.AnalysisAnswer.{AnalysisAnswer}
 

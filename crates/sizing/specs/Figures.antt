@@ -1,10 +1,7 @@
 -- Analyses of the factory chains, each computed.
-use Rattle.std.specs.Prelude.{◌≡◌, refl, [], ◌∷◌, pos, negsuc}
-use Rattle.words.specs.Table.{tab}
+use Rattle.std.specs.Prelude.{[], ◌∷◌}
 use Rattle.chain.specs.Factory.{queue, made, factory_answer}
 use Rattle.chain.specs.declared.Chain.{Chain}
-use Rattle.sizing.specs.Load.{busy_in, busy_of, cycle_of}
-use Rattle.sizing.specs.Sizes.{size_by, size_of}
 
 abbrev pub feed : Chain
 feed = (factory_answer 0).chain

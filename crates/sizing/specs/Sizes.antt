@@ -12,11 +12,10 @@
 --   refused_with N L         the answer that is all zero but for number and place, as each refused one is (sized_refused)
 --   minimum-, naming-, capacity_most
 --                            how large the numbers of a sound queue's line can be
-use Rattle.std.specs.Prelude.{◌≡◌, refl, ◌≢◌, cond, ℕ, suc, ◌/◌, ◌<◌, ◌≤◌, eqb, get_or, replicate, ℤ, pos}
-use Rattle.std.proofs.Common.{ap, le_trans, arith, ne_eqb}
-use Rattle.words.specs.Table.{tab, slots, slot_used}
+use Rattle.std.specs.Prelude.{◌≡◌, refl, cond, ℕ, suc, ◌/◌, ◌≤◌, eqb, replicate, ℤ, pos}
+use Rattle.std.proofs.Common.{le_trans, arith}
+use Rattle.words.specs.Table.{tab, slots}
 use Rattle.words.specs.declared.Queue.{Queue}
-use Rattle.chain.specs.Refusals.{refused, fine, Silent}
 use Rattle.chain.specs.Record.{row_of}
 use Rattle.chain.specs.Sound.{SoundRow}
 use Rattle.chain.specs.declared.Refusal.{Refusal}
@@ -26,7 +25,7 @@ use Rattle.onequeue.specs.Known.{Known}
 use Rattle.onequeue.specs.Least.{least}
 use Rattle.onequeue.proofs.LeastLaws.{minimum_fits, naming_fits}
 use Rattle.onequeue.specs.Capacity.{capacity, margin}
-use Rattle.onequeue.proofs.CapacityLaws.{capacity_fits, capacity_written, margin_zero}
+use Rattle.onequeue.proofs.CapacityLaws.{capacity_fits}
 use Rattle.onequeue.specs.declared.Row.{Row}
 use Rattle.onequeue.specs.declared.Shown.{Shown}
 use Rattle.sizing.specs.Nodes.{x_of, y_of}

@@ -20,7 +20,7 @@ use Prim.Native.Nat.{ℕ, zero, suc, ◌+◌, ◌*◌, ◌/◌, ◌≤◌, ◌<�
 use Rattle.std.proofs.Math.Dec.{ltb}
 use Rattle.words.specs.Flat.{flat}
 use Rattle.words.specs.Rows.{none}
-use Rattle.words.specs.Table.{tab, slots, tab_alike, slot_used, slots_alike}
+use Rattle.words.specs.Table.{tab, slots, slot_used, slots_alike}
 use Rattle.words.specs.declared.Queue.{Queue}
 use Rattle.chain.specs.Refusals.{test, first}
 use Rattle.chain.specs.Record.{row_of, work_of, trimmed}

@@ -5,7 +5,7 @@
 --   fire_alike               which refuse a firing alike
 --   past_n                   and give states that differ in slots past n only
 --   past_kept                each of which has its own slots past n as they were
-use Rattle.std.specs.Prelude.{◌≡◌, refl, Bool, true, false, cond, not, ◌||◌, ◌&&◌, ℕ, zero, suc, ◌+◌, ◌≤◌, ◌<◌, leb, eqb, length}
+use Rattle.std.specs.Prelude.{◌≡◌, refl, not, ◌||◌, ◌&&◌, ℕ, zero, suc, ◌+◌, ◌≤◌, ◌<◌, leb, eqb}
 use Rattle.std.proofs.Common.{sym, ap₂, ◌∙◌, arith}
 use Rattle.std.proofs.Math.Path.{ap}
 use Rattle.std.proofs.Math.Logic.{by_cases}
@@ -19,10 +19,10 @@ use Rattle.chain.specs.Record.{row_of}
 use Rattle.chain.specs.declared.Refusal.{Refusal}
 use Rattle.chain.specs.declared.Chain.{Chain}
 use Rattle.sizing.specs.Sizes.{capacity_of}
-use Rattle.sizing.specs.Checks.{limit, analyse_refusal}
-use Rattle.state.specs.State.{count_at, held_at, done_at, empty_run, fresh_run, fresh_empty, answered}
-use Rattle.state.specs.Fired.{fired, over_enough}
-use Rattle.state.proofs.FiredLaws.{counts_length, holds_length, count_fired, count_other, held_output, held_input, held_other, held_sink}
+use Rattle.sizing.specs.Checks.{limit}
+use Rattle.state.specs.State.{count_at, held_at, empty_run, fresh_empty, answered}
+use Rattle.state.specs.Fired.{fired}
+use Rattle.state.proofs.FiredLaws.{count_fired, count_other, held_output, held_input, held_other, held_sink}
 use Rattle.state.specs.Checks.{broken, state_test, state_check, spent, over, idle, cramped}
 use Rattle.state.specs.Fire.{fresh_answer, node_checks, fire_refusal, fire_answer, Firing}
 use Rattle.state.proofs.FireLaws.{firing_is, fire_accepted, fire_refused}

@@ -4,29 +4,19 @@
 --   Whole s                  a state of 17 counts and 16 queues, as every state of the product is
 --   fired_whole, whole_kept, fresh_whole
 --                            a firing keeps the number of slots, and so does its answer; a fresh start has it
-use Rattle.std.specs.Prelude.{◌≡◌, refl, Bool, true, false, cond, not, ◌||◌, ◌&&◌, ℕ, zero, suc, ◌+◌, ◌≤◌, ◌<◌, leb, eqb, length}
-use Rattle.std.proofs.Common.{sym, ap₂, ◌∙◌, arith}
-use Rattle.std.proofs.Math.Path.{ap}
+use Rattle.std.specs.Prelude.{◌≡◌, refl, Bool, true, false, cond, ◌||◌, ◌&&◌, ℕ, suc, ◌+◌, ◌≤◌, ◌<◌, eqb, length}
+use Rattle.std.proofs.Common.{◌∙◌, arith}
 use Rattle.std.proofs.Math.Logic.{by_cases}
-use mathlib.Core.List.{[], ◌∷◌, ◌++◌}
 use Rattle.std.proofs.Math.Decide.{ℕ_discrete}
-use Rattle.std.proofs.Math.Dec.{ltb}
-use borrow.Author.Tests.{ltb-true, ltb-false, leb-true}
-use Rattle.words.specs.Table.{tab, tab_alike}
-use Rattle.chain.specs.Refusals.{test, first, Silent, silent_as}
 use Rattle.chain.specs.Record.{row_of}
-use Rattle.chain.specs.declared.Refusal.{Refusal}
 use Rattle.chain.specs.declared.Chain.{Chain}
-use Rattle.sizing.specs.Sizes.{capacity_of}
-use Rattle.sizing.specs.Checks.{limit, analyse_refusal}
+use Rattle.sizing.specs.Checks.{analyse_refusal}
 use Rattle.state.specs.State.{count_at, held_at, done_at, empty_run, fresh_run, fresh_empty, answered}
 use Rattle.state.specs.Fired.{fired, over_enough}
-use Rattle.state.proofs.FiredLaws.{counts_length, holds_length, count_fired, count_other, held_output, held_input, held_other, held_sink}
-use Rattle.state.specs.Checks.{broken, state_test, state_check, spent, over, idle, cramped}
-use Rattle.state.specs.Fire.{fresh_answer, node_checks, fire_refusal, fire_answer, Firing}
+use Rattle.state.proofs.FiredLaws.{counts_length, holds_length}
+use Rattle.state.specs.Fire.{fresh_answer, fire_refusal, fire_answer, Firing}
 use Rattle.state.proofs.FireLaws.{firing_is, fire_accepted, fire_refused}
 use Rattle.state.specs.declared.Run.{Run}
-use Rattle.slots.specs.Chains.{AlikeChains}
 
 -- two states that agree on all but the slots past n
 pub record AlikeRuns (n : ℕ) (s t : Run) : Type 0 where

@@ -13,26 +13,19 @@
 --   lent_run, state_lent, state_lent_with
 --                              the state whose numbers are lent, which 17 is said of
 use Rattle.std.proofs.Math.Logic.Iff
-use Rattle.std.specs.Prelude.{◌≡◌, refl, Bool, true, false, not, ◌||◌, ◌&&◌, ◌↔◌, ◌≢◌, ◌⊎◌, List, ℕ, zero, suc, ◌+◌, ◌*◌, ◌≤◌, ◌<◌, ltb, leb, eqb, get_or, replicate}
-use Rattle.std.proofs.Common.{ap, ◌∙◌, inl, inr, zero-add, add-zero, arith, ne_eqb}
+use Rattle.std.specs.Prelude.{◌≡◌, refl, Bool, true, false, ◌↔◌, ◌≢◌, ◌⊎◌, List, ℕ, zero, suc, ◌+◌, ◌≤◌, ◌<◌, eqb, get_or}
+use Rattle.std.proofs.Common.{ap, inl, inr, arith, ne_eqb}
 use Rattle.std.proofs.Math.Logic.{⊎_elim, by_cases}
 use Rattle.std.proofs.Math.Decide.{dec_lt}
 use Rattle.std.proofs.lemmas.Bool.{eqb-false}
 use Rattle.words.specs.Table.{tab, tab_alike}
-use Rattle.words.specs.declared.Queue.{Queue}
 use Rattle.chain.specs.Tests.{below_true, below_false, upto_true, upto_false, equal_true, differ_true, differ_false, or_true, or_false, and_true, and_false, negated_true, negated_false}
-use Rattle.chain.specs.Refusals.{refused, test, first, Silent, silent_as, Lowest, lowest_is, Only, only_test, only_tab, test_exact, test_silent, all_silent}
+use Rattle.chain.specs.Refusals.{refused, test, first, Silent, Lowest, lowest_is, Only, only_test, only_tab, test_exact, test_silent, all_silent}
 use Rattle.chain.specs.Record.{row_of, work_of}
-use Rattle.chain.specs.declared.Refusal.{Refusal}
 use Rattle.chain.specs.declared.Chain.{Chain}
-use Rattle.onequeue.specs.Capacity.{capacity}
-use Rattle.onequeue.specs.Least.{least}
-use Rattle.chain.specs.Sound.{Sound, SoundRow}
-use Rattle.sizing.specs.Sizes.{start, capacity_of}
+use Rattle.sizing.specs.Sizes.{capacity_of}
 use Rattle.sizing.specs.Checks.{limit}
-use Rattle.sizing.proofs.AcceptedLaws.{analyse_accepts, run_accepts}
-use Rattle.sizing.specs.Plan.{Plans, SizedPlans, RunPlans}
-use Rattle.state.specs.State.{count_at, held_at, done_at, zeros}
+use Rattle.state.specs.State.{count_at, held_at, done_at}
 use Rattle.state.specs.Fired.{Over, Room, supplied, accounted}
 use Rattle.state.specs.declared.Run.{Run}
 use Rattle.state.specs.Checks.{broken_unless, broken, state_check, spent, count_check, over, idle, over_check, cramped, Cramped, room_check, queue_test, BrokenAt, SteadyAt, FirstBrokenAt, state_test_with, state_check_with, FirstBroken, StateSound, lent_run}

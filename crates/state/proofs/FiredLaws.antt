@@ -6,19 +6,14 @@
 --   Slots n s, slots_kept    the state has a slot for each node and queue, and a firing keeps them
 --   balance_with_kept, balance_kept
 --                            a firing keeps each queue's balance
-use Rattle.std.specs.Prelude.{◌≡◌, Bool, cond, ◌≢◌, List, ℕ, zero, suc, ◌+◌, ◌-◌, ◌*◌, ◌≤◌, ◌<◌, ltb, set}
-use Rattle.std.proofs.Math.Path.{refl}
-use Rattle.std.proofs.Common.{sym, ap, ◌∙◌, add-zero, sub-add_cancel, arith, lt-ltb, le-ltb}
-use Rattle.std.proofs.Math.Bool.{true, false}
+use Rattle.std.specs.Prelude.{◌≡◌, ◌≢◌, ℕ, suc, ◌+◌, ◌-◌, ◌≤◌, ◌<◌}
+use Rattle.std.proofs.Common.{sym, ◌∙◌, add-zero, sub-add_cancel, arith, lt-ltb, le-ltb}
 use Rattle.std.proofs.Math.Logic.{by_cases}
 use Rattle.std.proofs.Math.Decide.{ℕ_discrete}
 use Rattle.std.proofs.Math.ListN.{length, get_or, length-set}
 use Rattle.std.proofs.Math.Seq.{get_or-set_same, get_or-set_other}
 use Rattle.chain.specs.Record.{row_of}
-use Rattle.chain.specs.Sound.{Sound}
 use Rattle.chain.specs.declared.Chain.{Chain}
-use Rattle.sizing.specs.Sizes.{start, capacity_of}
-use Rattle.sizing.specs.Checks.{limit}
 use Rattle.state.specs.State.{count_at, held_at}
 use Rattle.state.specs.declared.Run.{Run}
 use Rattle.state.specs.Fired.{produced, consumed, fired, length_produced, produced_other, length_consumed, consumed_other, Balance, BalanceWith, put_balance, take_balance, keep_balance, Slots}

@@ -5,28 +5,19 @@
 --   fire_refusal c s i, fire_answer c s i
 --                              what a firing is refused with, and the whole answer: the state as it was, or after the firing
 --   Firing c s i, firing_is    the same as a record, which the code of a manual firing asks
-use Rattle.std.proofs.Math.Logic.Iff
-use Rattle.std.specs.Prelude.{◌≡◌, ◌↔◌, ◌≢◌, ◌⊎◌, List, [], ◌∷◌, ◌++◌, ℕ, zero, suc, ◌+◌, ◌≤◌, ◌<◌, get_or, take}
+use Rattle.std.specs.Prelude.{◌≡◌, List, [], ◌∷◌, ◌++◌, ℕ}
 use Rattle.std.proofs.Math.Path.{refl}
-use Rattle.std.proofs.Common.{sym, eq-eqb, ne_eqb}
-use native.Mathlib.Omega.{arith}
-use Rattle.chain.specs.Refusals.{refused, fine, first, or_else, first_append, Silent, Silents, or_silents, silent_as, first_silent, Numbered, said_earlier, numbered_append}
-use Rattle.chain.proofs.RefusalsLaws.{exact_at}
-use Rattle.chain.specs.Record.{row_of}
+use Rattle.std.proofs.Common.{eq-eqb, ne_eqb}
+use Rattle.chain.specs.Refusals.{refused, first, Silent}
 use Rattle.chain.specs.Checks.{range_check, order_check}
-use Rattle.chain.proofs.ChecksLaws.{count_only}
 use Rattle.chain.specs.declared.Refusal.{Refusal}
 use Rattle.chain.specs.declared.Chain.{Chain}
 use Rattle.sizing.specs.Load.{busy_in}
-use Rattle.sizing.specs.Sizes.{capacity_of}
-use Rattle.sizing.specs.Checks.{limit, analyse_checks, analyse_refusal, rate_check, analyse_numbers}
-use Rattle.sizing.proofs.ChecksLaws.{analyse_numbered}
+use Rattle.sizing.specs.Checks.{analyse_checks, analyse_refusal, rate_check, analyse_numbers}
 use Rattle.sizing.specs.Accepted.{Accepted}
-use Rattle.sizing.proofs.AcceptedLaws.{analyse_accepts}
-use Rattle.state.specs.State.{count_at, held_at, empty_run, fresh_run, answered}
-use Rattle.state.specs.Fired.{fired, Over, May}
-use Rattle.state.specs.Checks as own
-use Rattle.state.specs.Checks.{state_check, lent_run, count_check, over_check, cramped, room_check, FirstBroken, StateSound}
+use Rattle.state.specs.State.{empty_run, fresh_run, answered}
+use Rattle.state.specs.Fired.{fired, May}
+use Rattle.state.specs.Checks.{state_check, count_check, over_check, cramped, room_check, StateSound}
 use Rattle.state.specs.declared.Run.{Run}
 use Rattle.state.specs.declared.RunAnswer.{RunAnswer}
 

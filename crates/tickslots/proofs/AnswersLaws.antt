@@ -21,7 +21,6 @@ use Rattle.instants.specs.Checks.{tick_refusal, deadline_run_refusal, outcome_of
 use Rattle.instants.specs.declared.Outcome.{Outcome}
 use Rattle.instants.specs.declared.Outcome.TheVariants.{Clean}
 use Rattle.instants.specs.declared.Ticked.{Ticked}
-use Rattle.instants.specs.declared.TickAnswer.{TickAnswer}
 use Rattle.tickslots.specs.Slots.{KeptSlots, AlikeTicked}
 use Rattle.tickslots.proofs.SlotsLaws.{states_of, states_refl, runs_of, kept_refl, kept_whole, same_state}
 use Rattle.tickslots.specs.Alike.{tick_refusal_alike, deadline_run_refusal_alike}

@@ -12,10 +12,10 @@
 --   alike_cond, kept_cond    of two of them one is taken
 --   alike_onward, kept_onward
 --                            one thing after the other
-use Rattle.std.specs.Prelude.{◌≡◌, refl, Bool, true, false, cond, List, [], ◌∷◌, ℕ, zero, suc, ◌≤◌, ◌<◌, length, get_or, set}
+use Rattle.std.specs.Prelude.{◌≡◌, refl, Bool, true, false, cond, List, ℕ, ◌≤◌, ◌<◌, set}
 use Rattle.std.proofs.Common.{sym, ◌∙◌, arith, length-set, get_or-set_other, ext_get_or}
 use Rattle.std.proofs.Math.Logic.{by_cases}
-use Rattle.std.proofs.Math.Decide.{ℕ_discrete, dec_lt}
+use Rattle.std.proofs.Math.Decide.{dec_lt}
 use Rattle.state.specs.State.{same_run}
 use Rattle.state.specs.declared.Run.{Run}
 use Rattle.slots.specs.Runs.{AlikeRuns, Whole}

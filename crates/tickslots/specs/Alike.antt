@@ -3,37 +3,32 @@
 --   ended_low                the node whose work is done is a node of the chain
 --   spent- and tick_refusal_alike, deadline_run_refusal_alike
 --                            they are refused alike
-use Rattle.std.specs.Prelude.{◌≡◌, Bool, ◌&&◌, List, leb, get_or, set}
-use Rattle.std.proofs.Math.Path.{refl, ap, ap₂}
+use Rattle.std.specs.Prelude.{◌≡◌, Bool, ◌&&◌, leb}
+use Rattle.std.proofs.Math.Path.{refl, ap}
 use Rattle.std.proofs.Common.{sym, ◌∙◌, le_refl, arith}
 use Rattle.std.proofs.Math.Bool.{true, false, cond, not}
-use Prim.Native.Nat.{ℕ, zero, suc, ◌+◌, ◌-◌, ◌≤◌, ◌<◌}
+use Prim.Native.Nat.{ℕ, zero, suc, ◌≤◌, ◌<◌}
 use Rattle.std.proofs.Math.Nat.{le_step}
-use Rattle.std.proofs.Math.Dec.{ltb, eqb}
-use borrow.Author.Tests.{ltb-true}
+use Rattle.std.proofs.Math.Dec.{eqb}
 use Rattle.words.specs.Table.{tab, tab_alike}
 use Rattle.chain.specs.Refusals.{test, first, or_else}
-use Rattle.chain.specs.Record.{row_of, work_of}
+use Rattle.chain.specs.Record.{work_of}
 use Rattle.chain.specs.declared.Refusal.{Refusal}
 use Rattle.chain.specs.declared.Chain.{Chain}
 use Rattle.sizing.specs.Checks.{limit}
 use Rattle.state.specs.State.{done_at}
-use Rattle.state.specs.Fired.{produced, consumed, fired}
 use Rattle.state.specs.Checks.{over}
 use Rattle.state.specs.declared.Run.{Run}
 use Rattle.slots.specs.Chains.{AlikeChains}
 use Rattle.slots.proofs.ChainsLaws.{run_alike}
 use Rattle.slots.specs.Runs.{AlikeRuns}
-use Rattle.slots.proofs.RunsLaws.{state_alike, over_alike, cramped_alike}
+use Rattle.slots.proofs.RunsLaws.{state_alike, over_alike}
 use Rattle.deadline.specs.Deadline.{deadline, index_check}
-use Rattle.instants.specs.Steps.{clean, overflowed, undated, with_done, divides, sourced, next, lacking_test, lacking, as_early}
-use Rattle.instants.specs.Steps.{choose, chosen, worked, ended_in, ended, finish, finished, begun, advanced, tick, instants}
+use Rattle.instants.specs.Steps.{next, lacking_test, lacking, as_early}
+use Rattle.instants.specs.Steps.{choose, chosen, ended_in, ended}
 use Rattle.instants.specs.Checks.{longest, spent_test, spent_check, length_check, tick_refusal, deadline_run_refusal}
 use Rattle.instants.proofs.BestLaws.{choose_best}
-use Rattle.instants.proofs.KeptLaws.{chosen_low}
 use Rattle.instants.proofs.RefusalsLaws.{tick_parts, deadline_run_parts}
-use Rattle.instants.specs.declared.Outcome.TheVariants.{Overflowed, NoDeadline}
-use Rattle.tickslots.specs.Slots.{AlikeLists, alike_set, AlikeStates, AlikeTicked}
 use Rattle.tickslots.specs.Deadlines.{deadline_alike, index_alike}
 
 -- what a tick reads of the states

@@ -7,16 +7,11 @@
 --   AlikeStates n s t        two states of as many slots that differ in slots past n only
 --   KeptSlots n s t          t has as many slots as s, and s's slots past n
 --   AlikeTicked n x y        outcomes that are the same, with states that differ in slots past n only
-use Rattle.std.specs.Prelude.{◌≡◌, refl, Bool, true, false, cond, List, [], ◌∷◌, ℕ, zero, suc, ◌≤◌, ◌<◌, length, get_or, set}
-use Rattle.std.proofs.Common.{sym, ◌∙◌, arith, length-set, get_or-set_other, ext_get_or}
+use Rattle.std.specs.Prelude.{◌≡◌, refl, List, [], ◌∷◌, ℕ, zero, suc, ◌≤◌, ◌<◌, length, get_or, set}
+use Rattle.std.proofs.Common.{sym, ◌∙◌, arith, length-set, get_or-set_other}
 use Rattle.std.proofs.Math.Logic.{by_cases}
-use Rattle.std.proofs.Math.Decide.{ℕ_discrete, dec_lt}
-use Rattle.state.specs.State.{same_run}
+use Rattle.std.proofs.Math.Decide.{ℕ_discrete}
 use Rattle.state.specs.declared.Run.{Run}
-use Rattle.slots.specs.Runs.{AlikeRuns, Whole}
-use Rattle.instants.specs.Steps.{clean, goes, onward}
-use Rattle.instants.specs.declared.Outcome.{Outcome}
-use Rattle.instants.specs.declared.Outcome.TheVariants.{Clean, Overflowed, NoDeadline}
 use Rattle.instants.specs.declared.Ticked.{Ticked}
 
 -- two lists that agree on the first n slots

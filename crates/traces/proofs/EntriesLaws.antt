@@ -5,9 +5,9 @@
 --   entries_when               exactly that is its k-th instant, counted from 0
 --   entries_first, _apart      its first is e or later, and each other one is e or more after the one before
 --   entries_rise               the instants of all nodes never fall, and none is after T
-use Rattle.std.specs.Prelude.{◌≡◌, ◌↔◌, ◌≢◌, ◌⊎◌, Bool, true, false, cond, eqb, length, get_or}
+use Rattle.std.specs.Prelude.{◌≡◌, ◌↔◌, Bool, true, false, cond, length, get_or}
 use Rattle.std.proofs.Math.Path.{refl, sym, ap, subst}
-use Rattle.std.proofs.Common.{◌∙◌, inr, le_refl, le_trans, le_antisymm, arith, length-append, eq-eqb, ne_eqb}
+use Rattle.std.proofs.Common.{◌∙◌, inr, le_refl, le_trans, le_antisymm, arith, length-append}
 use Rattle.std.proofs.Math.Logic.{inl, ⊎_elim, by_cases}
 use mathlib.Core.List.{List, [], ◌∷◌, ◌++◌, append-nil, append_assoc}
 use Prim.Native.Nat.{ℕ, zero, suc, ◌+◌, ◌*◌, ◌≤◌, ◌<◌}
@@ -19,16 +19,15 @@ use Rattle.arith.proofs.DivisionLaws.{ceil_zero, ceil_rises}
 use Rattle.words.specs.Table.{tab, length_tab, tab_last}
 use Rattle.chain.specs.Record.{work_of}
 use Rattle.chain.specs.declared.Chain.{Chain}
-use Rattle.state.specs.State.{count_at, done_at, fresh_run}
+use Rattle.state.specs.State.{count_at, fresh_run}
 use Rattle.state.specs.declared.Run.{Run}
-use Rattle.history.specs.History.{Entry, nodes, times}
+use Rattle.history.specs.History.{Entry}
 use Rattle.instants.specs.Checks.{deadline_run_answer}
 use Rattle.instants.specs.Steps.{clean, goes, onward, divides, begun, chosen, worked, ended, finished, advanced, tick, ticks, instants}
 use Rattle.instants.specs.Kept.{fired_clock}
 use Rattle.instants.proofs.KeptLaws.{source_cases, begun_clean, worked_clock}
 use Rattle.instants.specs.Runs.{onward_cases}
 use Rattle.instants.proofs.FreshLaws.{run_is_ticks}
-use Rattle.instants.specs.Answers.{CleanStep}
 use Rattle.instants.proofs.AnswersLaws.{run_may, ran_to, run_start, along}
 use Rattle.instants.specs.Totals.{worked_by, tick_work, fresh_work}
 use Rattle.instants.proofs.TotalsLaws.{tick_source, run_clock}

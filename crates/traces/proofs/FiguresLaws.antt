@@ -4,10 +4,8 @@
 --   short, short_12          Permeate with B 12 and 5 (P4), whose second queue overflows at a finish
 --   far, far_state, far_tick  a chain and a state in which 13 takes back the source's step
 use Rattle.std.specs.Prelude.{◌≡◌, refl, [], ◌∷◌}
-use Rattle.chain.specs.Factory.{queue, made, factory_answer}
-use Rattle.chain.specs.declared.Chain.{Chain}
+use Rattle.chain.specs.Factory.{factory_answer}
 use Rattle.state.specs.State.{fresh_run}
-use Rattle.state.specs.declared.Run.{Run}
 use Rattle.instants.specs.Figures.{feed, feed_working}
 use Rattle.instants.specs.Steps.{tick, ticks, values_of}
 use Rattle.traces.specs.Trace.{tick_trace, trace}

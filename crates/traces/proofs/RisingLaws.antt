@@ -1,12 +1,12 @@
 -- The instants of a trace (01, Firing).
 --   tick_rising, trace_rising  the instants of one tick, and of so many, lie between the clock before and the clock after
 --   run_rising                 those of a deadline run, from a fresh start
-use Rattle.std.proofs.Common.{sym, le_trans, arith}
+use Rattle.std.proofs.Common.{sym, arith}
 use Rattle.std.proofs.Math.Path.{subst}
 use Rattle.std.specs.Prelude.{Bool, eqb}
 use Rattle.std.proofs.Math.Bool.{true, false, cond}
 use mathlib.Core.List.{List, [], ◌∷◌, ◌++◌}
-use Prim.Native.Nat.{ℕ, zero, suc, ◌≤◌}
+use Prim.Native.Nat.{ℕ, zero, suc}
 use Rattle.std.proofs.Math.Nat.{le_refl}
 use Rattle.chain.specs.declared.Chain.{Chain}
 use Rattle.sizing.specs.Accepted.{Accepted}

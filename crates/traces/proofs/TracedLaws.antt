@@ -7,32 +7,28 @@
 --   run_traced                 a deadline run from a fresh start
 --   run_counted, run_balance, run_naming
 --                              so its counts, its balance and the naming count are those of a permitted history
-use Rattle.std.specs.Prelude.{◌≡◌, true, false, eqb, leb}
+use Rattle.std.specs.Prelude.{◌≡◌, false}
 use Rattle.std.proofs.Math.Path.{refl, ap, ap₂, subst}
-use Rattle.std.proofs.Common.{sym, ◌∙◌, le_refl, arith, leb-true}
+use Rattle.std.proofs.Common.{sym, ◌∙◌, arith}
 use Rattle.std.proofs.Math.Logic.{by_cases}
-use Rattle.std.proofs.Math.Bool.{Bool, cond}
-use mathlib.Core.List.{List, [], ◌∷◌, ◌++◌, map-append}
+use mathlib.Core.List.{[], ◌++◌}
 use Prim.Native.Nat.{ℕ, zero, suc, ◌+◌, ◌≤◌, ◌<◌}
-use Rattle.std.proofs.Math.Nat.{le_step}
 use Rattle.std.proofs.Math.Decide.{ℕ_discrete}
-use Rattle.std.proofs.Math.ListN.{replicate}
 use Rattle.chain.specs.Record.{row_of, work_of}
 use Rattle.chain.specs.declared.Chain.{Chain}
 use Rattle.sizing.specs.Sizes.{minimum_of, naming_of}
 use Rattle.sizing.specs.Accepted.{Accepted}
-use Rattle.state.specs.State.{count_at, held_at, done_at, fresh_run, zeros}
-use Rattle.state.specs.Fired.{fired, Over, May, Balance}
-use Rattle.state.specs.Checks.{cramped, StateSound}
-use Rattle.state.proofs.FireLaws.{firing_is}
+use Rattle.state.specs.State.{count_at, held_at, done_at, fresh_run}
+use Rattle.state.specs.Fired.{Over, May, Balance}
+use Rattle.state.specs.Checks.{cramped}
 use Rattle.state.specs.declared.Run.{Run}
-use Rattle.history.specs.History.{Entry, nodes, times, after, Permitted, HasHeld, after_append, EachFiring, each_append}
+use Rattle.history.specs.History.{nodes, times, after, Permitted, HasHeld}
 use Rattle.history.proofs.Laws.{counted, balance, naming}
 use Rattle.instants.specs.Checks.{longest}
 use Rattle.instants.specs.Runs.{onward_goes, onward_stops}
-use Rattle.instants.specs.Steps.{clean, overflowed, undated, onward, goes, with_done, divides, sourced, lacking, begun}
-use Rattle.instants.specs.Steps.{chosen, worked, ended_in, ended, finish, finished, advanced, tick, ticks, instants}
-use Rattle.instants.specs.Kept.{SourceStep, Countable, source_may}
+use Rattle.instants.specs.Steps.{clean, onward, goes, with_done, begun}
+use Rattle.instants.specs.Steps.{chosen, worked, ended, finish, finished, advanced, tick, ticks, instants}
+use Rattle.instants.specs.Kept.{SourceStep, Countable}
 use Rattle.instants.proofs.KeptLaws.{finish_cases, source_running, sourced_clean, begun_clean, chosen_over}
 use Rattle.instants.specs.Filled.{Running}
 use Rattle.instants.proofs.FilledLaws.{running_filled}

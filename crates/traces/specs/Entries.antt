@@ -4,39 +4,21 @@
 --   instants_times             N_i has as many of them as it stands in h
 --   entries_of c T i           those of a run of T ticks from a fresh start
 --   FiredAt c T j k t          t is the instant, T or earlier, at which N_(j+1)'s count goes from k to k+1, with no work done of its next firing
-use Rattle.std.specs.Prelude.{◌≡◌, ◌↔◌, ◌≢◌, ◌⊎◌, Bool, true, false, cond, eqb, length, get_or}
-use Rattle.std.proofs.Math.Path.{refl, sym, ap, subst}
-use Rattle.std.proofs.Common.{◌∙◌, inr, le_refl, le_trans, le_antisymm, arith, length-append, eq-eqb, ne_eqb}
-use Rattle.std.proofs.Math.Logic.{inl, ⊎_elim, by_cases}
-use mathlib.Core.List.{List, [], ◌∷◌, ◌++◌, append-nil, append_assoc}
+use Rattle.std.specs.Prelude.{◌≡◌, ◌≢◌, ◌⊎◌, Bool, true, false, cond, eqb, length, get_or}
+use Rattle.std.proofs.Math.Path.{refl, ap, subst}
+use Rattle.std.proofs.Common.{◌∙◌, inr, arith, eq-eqb, ne_eqb}
+use Rattle.std.proofs.Math.Logic.{inl, ⊎_elim}
+use mathlib.Core.List.{List, [], ◌∷◌, ◌++◌, append-nil}
 use Prim.Native.Nat.{ℕ, zero, suc, ◌+◌, ◌*◌, ◌≤◌, ◌<◌}
-use Rattle.std.proofs.Math.Decide.{ℕ_discrete, dec_le, dec_lt}
-use Rattle.std.proofs.Math.ListN.{get_or-append}
-use Rattle.std.proofs.lemmas.List.{get_or_at}
-use Rattle.arith.specs.Division.{ceil}
-use Rattle.arith.proofs.DivisionLaws.{ceil_zero, ceil_rises}
-use Rattle.words.specs.Table.{tab, length_tab, tab_last}
-use Rattle.chain.specs.Record.{work_of}
 use Rattle.chain.specs.declared.Chain.{Chain}
 use Rattle.state.specs.State.{count_at, done_at, fresh_run}
 use Rattle.state.specs.declared.Run.{Run}
 use Rattle.history.specs.History.{Entry, nodes, times}
 use Rattle.instants.specs.Checks.{deadline_run_answer}
-use Rattle.instants.specs.Steps.{clean, goes, onward, divides, begun, chosen, worked, ended, finished, advanced, tick, ticks, instants}
-use Rattle.instants.specs.Kept.{fired_clock}
-use Rattle.instants.proofs.KeptLaws.{source_cases, begun_clean, worked_clock}
-use Rattle.instants.specs.Runs.{onward_cases}
-use Rattle.instants.proofs.FreshLaws.{run_is_ticks}
 use Rattle.instants.specs.Answers.{CleanStep}
-use Rattle.instants.proofs.AnswersLaws.{run_may, ran_to, run_start, along}
-use Rattle.instants.specs.Totals.{worked_by, tick_work, fresh_work}
-use Rattle.instants.proofs.TotalsLaws.{tick_source, run_clock}
 use Rattle.instants.specs.declared.Outcome.{Outcome}
 use Rattle.instants.specs.declared.Outcome.TheVariants.{Clean, Overflowed, NoDeadline}
-use Rattle.instants.specs.declared.Ticked.{Ticked}
-use Rattle.instants.specs.declared.TickAnswer.{TickAnswer}
-use Rattle.traces.specs.Trace.{tracing, source_entry, finish_entry, finish_trace, tick_trace, trace}
-use Rattle.traces.specs.Rising.{Rising}
+use Rattle.traces.specs.Trace.{tracing, trace}
 
 -- the instants at which N_i stands in a trace, in order
 unfoldable pub instants_of : ℕ → List Entry → List ℕ

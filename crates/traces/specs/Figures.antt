@@ -1,14 +1,10 @@
 -- Figures of traces, each computed (01, P7 and P8, and Firing).
 --   short, short_12          Permeate with B 12 and 5 (P4), whose second queue overflows at a finish
 --   far, far_state, far_tick  a chain and a state in which 13 takes back the source's step
-use Rattle.std.specs.Prelude.{◌≡◌, refl, [], ◌∷◌}
-use Rattle.chain.specs.Factory.{queue, made, factory_answer}
+use Rattle.std.specs.Prelude.{[], ◌∷◌}
+use Rattle.chain.specs.Factory.{queue, made}
 use Rattle.chain.specs.declared.Chain.{Chain}
-use Rattle.state.specs.State.{fresh_run}
 use Rattle.state.specs.declared.Run.{Run}
-use Rattle.instants.specs.Figures.{feed, feed_working}
-use Rattle.instants.specs.Steps.{tick, ticks, values_of}
-use Rattle.traces.specs.Trace.{tick_trace, trace}
 
 -- P4's chain, which a run refuses with 8: its second queue has room for one firing of N_1 and not for the next
 abbrev pub short : Chain

@@ -2,41 +2,30 @@
 --   tracing_none               nothing is said after an outcome that ends a run
 --   replays_none, _one, _then  no firing, a firing that may be, and one trace after the other
 use Rattle.std.specs.Prelude.{◌≡◌, true, false, eqb, leb}
-use Rattle.std.proofs.Math.Path.{refl, ap, ap₂, subst}
+use Rattle.std.proofs.Math.Path.{refl, ap, subst}
 use Rattle.std.proofs.Common.{sym, ◌∙◌, le_refl, arith, leb-true}
-use Rattle.std.proofs.Math.Logic.{by_cases}
 use Rattle.std.proofs.Math.Bool.{Bool, cond}
 use mathlib.Core.List.{List, [], ◌∷◌, ◌++◌, map-append}
 use Prim.Native.Nat.{ℕ, zero, suc, ◌+◌, ◌≤◌, ◌<◌}
 use Rattle.std.proofs.Math.Nat.{le_step}
-use Rattle.std.proofs.Math.Decide.{ℕ_discrete}
 use Rattle.std.proofs.Math.ListN.{replicate}
-use Rattle.chain.specs.Record.{row_of, work_of}
+use Rattle.chain.specs.Record.{work_of}
 use Rattle.chain.specs.declared.Chain.{Chain}
-use Rattle.sizing.specs.Sizes.{minimum_of, naming_of}
-use Rattle.sizing.specs.Accepted.{Accepted}
-use Rattle.state.specs.State.{count_at, held_at, done_at, fresh_run, zeros}
-use Rattle.state.specs.Fired.{fired, Over, May, Balance}
+use Rattle.state.specs.State.{done_at, fresh_run, zeros}
+use Rattle.state.specs.Fired.{fired, May}
 use Rattle.state.specs.Checks.{cramped, StateSound}
 use Rattle.state.proofs.FireLaws.{firing_is}
 use Rattle.state.specs.declared.Run.{Run}
-use Rattle.history.specs.History.{Entry, nodes, times, after, Permitted, HasHeld, after_append, EachFiring, each_append}
-use Rattle.history.proofs.Laws.{counted, balance, naming}
+use Rattle.history.specs.History.{Entry, nodes, after, Permitted, after_append, EachFiring, each_append}
 use Rattle.instants.specs.Checks.{longest}
-use Rattle.instants.specs.Runs.{onward_goes, onward_stops}
-use Rattle.instants.specs.Steps.{clean, overflowed, undated, onward, goes, with_done, divides, sourced, lacking, begun}
-use Rattle.instants.specs.Steps.{chosen, worked, ended_in, ended, finish, finished, advanced, tick, ticks, instants}
-use Rattle.instants.specs.Kept.{SourceStep, Countable, source_may}
-use Rattle.instants.proofs.KeptLaws.{finish_cases, source_running, sourced_clean, begun_clean, chosen_over}
+use Rattle.instants.specs.Steps.{clean, overflowed, undated, onward, divides, sourced, lacking, begun}
+use Rattle.instants.specs.Steps.{ended_in, finish}
+use Rattle.instants.specs.Kept.{Countable, source_may}
 use Rattle.instants.specs.Filled.{Running}
-use Rattle.instants.proofs.FilledLaws.{running_filled}
-use Rattle.instants.proofs.KeptLaws.{worked_counts, worked_held, worked_other, worked_same, cleared_running, finish_may, tick_step}
-use Rattle.instants.specs.Fresh.{Paced}
-use Rattle.instants.proofs.FreshLaws.{fresh_paced, paced_countable, tick_paced, run_is_ticks}
 use Rattle.instants.specs.declared.Outcome.{Outcome}
 use Rattle.instants.specs.declared.Outcome.TheVariants.{Clean, Overflowed, NoDeadline}
 use Rattle.instants.specs.declared.Ticked.{Ticked}
-use Rattle.traces.specs.Trace.{tracing, source_entry, finish_entry, finish_trace, tick_trace, trace, resting, Replays}
+use Rattle.traces.specs.Trace.{tracing, source_entry, finish_entry, resting, Replays}
 
 -- nothing is said after an outcome that ends a run
 pub tracing_none : (o : Outcome) (s : Run) (f : Run → List Entry) → (o ≡ Clean → ⊥) → tracing o s f ≡ []

@@ -6,10 +6,8 @@
 --   word_at_law         word k of the bytes of words is word k: the round trip of every word
 --   word_back           the bytes of a word that was read are the bytes it was read from
 --   word_alike          equal bytes give equal words
-use Rattle.std.specs.Prelude.{◌≡◌, refl, cond, List, [], ◌∷◌, ◌++◌, ℕ, zero, suc, ◌+◌, ◌*◌, ◌/◌, ◌%◌, ◌^◌, ◌≤◌, ◌<◌, leb, length, get_or, take, drop}
-use Rattle.std.proofs.Common.{sym, ap, ◌∙◌, mod-eq_of_lt, arith, add-one, le-leb, get_or-append-add, take-add, drop-drop, drop-cons}
-use Rattle.std.proofs.Math.Nat.{div-div-eq-div-mul, div-add-mod}
-use Rattle.std.proofs.Math.Numerals.{add-two, add-three}
+use Rattle.std.specs.Prelude.{◌≡◌, refl, List, [], ◌∷◌, ◌++◌, ℕ, zero, suc, ◌+◌, ◌*◌, ◌/◌, ◌%◌, ◌^◌, ◌≤◌, ◌<◌, length, get_or}
+use Rattle.std.proofs.Common.{sym, ap, ◌∙◌, arith, le-leb, get_or-append-add}
 use Rattle.std.proofs.lemmas.Bool.{lt-leb}
 use Rattle.words.specs.Put.{Puts, then}
 use Rattle.words.specs.Words.{word, bytes_of, four_at, word_at, joined, Bytes, part, part_four, Alike}

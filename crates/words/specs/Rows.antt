@@ -4,11 +4,8 @@
 --   row_from s at     the row of the five words from `at` on
 --   row_at s at       that row; none where it would pass the end
 --   same_row          rows of equal words are equal
-use Rattle.std.specs.Prelude.{◌≡◌, cond, List, [], ◌∷◌, ◌++◌, ℕ, zero, suc, ◌+◌, ◌*◌, ◌≤◌, ◌<◌, leb, length}
-use Rattle.std.proofs.Common.{sym, ap, ap₂, ◌∙◌, add-zero, mul-zero, mul-suc, arith, le-leb}
-use Rattle.std.proofs.lemmas.Bool.{lt-leb}
-use Rattle.words.specs.Flat.{flat}
-use Rattle.words.specs.Words.{bytes_of, word_at, Bytes, part, part_add, Alike}
+use Rattle.std.specs.Prelude.{◌≡◌, cond, List, [], ◌∷◌, ℕ, ◌+◌, leb, length}
+use Rattle.words.specs.Words.{word_at}
 use Rattle.words.specs.declared.Queue.{Queue}
 
 -- the row of a slot that no queue has

@@ -7,12 +7,10 @@
 --   part s at k         the k bytes of s from `at` on
 --   part_add            a part, then the one behind it
 --   Alike s t at k      the k bytes from `at` on are the same in s and t
-use Rattle.std.specs.Prelude.{◌≡◌, refl, cond, List, [], ◌∷◌, ◌++◌, ℕ, zero, suc, ◌+◌, ◌*◌, ◌/◌, ◌%◌, ◌^◌, ◌≤◌, ◌<◌, leb, length, get_or, take, drop}
-use Rattle.std.proofs.Common.{sym, ap, ◌∙◌, mod-eq_of_lt, arith, add-one, le-leb, get_or-append-add, take-add, drop-drop, drop-cons}
+use Rattle.std.specs.Prelude.{◌≡◌, cond, List, [], ◌∷◌, ◌++◌, ℕ, suc, ◌+◌, ◌*◌, ◌/◌, ◌%◌, ◌^◌, ◌≤◌, ◌<◌, leb, length, get_or, take, drop}
+use Rattle.std.proofs.Common.{ap, ◌∙◌, mod-eq_of_lt, arith, add-one, take-add, drop-drop, drop-cons}
 use Rattle.std.proofs.Math.Nat.{div-div-eq-div-mul, div-add-mod}
 use Rattle.std.proofs.Math.Numerals.{add-two, add-three}
-use Rattle.std.proofs.lemmas.Bool.{lt-leb}
-use Rattle.words.specs.Put.{Puts, then}
 
 -- the four bytes of a word
 abbrev pub word : ℕ → List ℕ

@@ -1,5 +1,5 @@
 -- `flow::pour`: the goals that the check leaves, with the invariant of `Invariants.antt`.
-use Rattle.std.proofs.Common.{refl, ◌-◌}
+use Rattle.std.proofs.Common.{refl}
 use Rattle.flow.specs.Poured.{poured_none, poured_more, poured_end}
 use Rattle.flow.proofs.pour.Goals as goal
 

@@ -1,5 +1,4 @@
 -- `flow::shown`: the goals that the check leaves, with the invariant of `Invariants.antt`.
-use Rattle.std.proofs.Common.{◌-◌}
 use Rattle.flow.specs.Shown.{part_none, part_more, part_shown}
 use Rattle.flow.proofs.shown.Goals as goal
 

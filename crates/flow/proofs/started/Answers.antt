@@ -1,5 +1,5 @@
 -- `flow::started`: the goals that the check leaves, with the invariant of `Invariants.antt`.
-use Rattle.std.proofs.Common.{◌-◌, zero-add}
+use Rattle.std.proofs.Common.{zero-add}
 use Rattle.flow.specs.Shown.{entered_none, entered_more, entered_shows}
 use Rattle.flow.proofs.started.Goals as goal
 

@@ -1,5 +1,5 @@
 -- `losses::tallied`: the goals that the check leaves, with the invariant of `Invariants.antt`.
-use Rattle.std.proofs.Common.{inl, inr, ◌-◌, ◌<◌, arith}
+use Rattle.std.proofs.Common.{inl, inr, ◌<◌, arith}
 use Rattle.losses.specs.Losses.{entry_at}
 use Rattle.losses.proofs.Pass.{passed_none, passed_more, refuses, passed_all}
 use Rattle.losses.proofs.tallied.Goals as goal

@@ -1,5 +1,5 @@
 -- `recorder::joined`: the goals that the check leaves, with the invariant of `Invariants.antt`.
-use Rattle.std.proofs.Common.{refl, ◌-◌, zero-add, arith}
+use Rattle.std.proofs.Common.{refl, zero-add, arith}
 use Rattle.recorder.specs.Joined.{carry_start, carry_overflows, carry_slot, carry_queue, carry_full, carry_lacks, carry_low, carry_notes, carry_halts, carry_onward, carry_ends, carry_last}
 use Rattle.recorder.proofs.joined.Goals as goal
 

@@ -1,5 +1,5 @@
 -- `sizing::drawn`: the goals that the check leaves, with the invariant of `Invariants.antt`.
-use Rattle.std.proofs.Common.{sym, ◌∙◌, ◌-◌, arith}
+use Rattle.std.proofs.Common.{sym, ◌∙◌, arith}
 use Rattle.sizing.proofs.ChecksLaws.{too_large_false}
 use Rattle.sizing.proofs.Walk.{turn, walk_step, walk_small}
 use Rattle.sizing.proofs.Drawing.{drawing_none, drawing_more, drawing_stops, drawing_end}

@@ -1,5 +1,5 @@
 -- `sizing::short_queue`: the goals that the check leaves, with the invariant of `Invariants.antt`.
-use Rattle.std.proofs.Common.{refl, sym, ℕ, ◌-◌, ◌<◌, arith, lt-ltb, le-ltb}
+use Rattle.std.proofs.Common.{refl, sym, ℕ, ◌<◌, arith, lt-ltb, le-ltb}
 use Rattle.chain.specs.Refusals.{Silent, first_fine, lowest_is, all_silent, test_exact, test_silent}
 use Rattle.words.specs.Table.{tab, below_next}
 use Rattle.sizing.specs.Checks.{short_in, short_test}

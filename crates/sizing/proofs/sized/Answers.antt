@@ -1,5 +1,5 @@
 -- `sizing::sized`: the goals that the check leaves, with the invariant of `Invariants.antt`.
-use Rattle.std.proofs.Common.{sym, ◌∙◌, ◌-◌, arith}
+use Rattle.std.proofs.Common.{sym, ◌∙◌, arith}
 use Rattle.sizing.proofs.ChecksLaws.{too_large_false}
 use Rattle.sizing.proofs.Walk.{turn, walk_none, walk_step, walk_small, walk_more, walk_too_large, walk_over, walk_end}
 use Rattle.sizing.proofs.sized.Goals as goal

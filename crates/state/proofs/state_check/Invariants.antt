@@ -2,7 +2,7 @@
 use Rattle.std.proofs.Common.{ℕ, ◌-◌, ◌≤◌, ◌<◌}
 use Rattle.chain.specs.Refusals.{Silent}
 use Rattle.chain.specs.declared.Chain.{Chain}
-use Rattle.state.specs.Checks.{broken, state_test, lent_run}
+use Rattle.state.specs.Checks.{state_test, lent_run}
 use Rattle.state.specs.declared.Run.{Run}
 use Rattle.state.proofs.state_check.Given as goal
 

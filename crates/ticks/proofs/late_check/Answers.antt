@@ -1,5 +1,4 @@
 -- `ticks::late_check`: the goals that the check leaves, with the invariant of `Invariants.antt`.
-use Rattle.std.proofs.Common.{◌-◌}
 use Rattle.ticks.specs.Late.{late_clock, unspent_none, unspent_more, unspent_found, unspent_end}
 use Rattle.ticks.proofs.late_check.Goals as goal
 

@@ -1,5 +1,5 @@
 -- `ticks::passes`: the goals that the check leaves, with the invariant of `Invariants.antt`.
-use Rattle.std.proofs.Common.{◌-◌, arith, rules}
+use Rattle.std.proofs.Common.{arith, rules}
 use Rattle.ticks.specs.Passes.{going_stand, going_none, going_pass, going_ends, going_quiets, going_jumps, going_less, going_dates, going_slot, going_fires, going_last, going_done}
 use Rattle.ticks.proofs.passes.Goals as goal
 

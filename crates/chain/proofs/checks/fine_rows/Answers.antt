@@ -1,5 +1,5 @@
 -- `chain::checks::fine_rows`: the goals that the check leaves, with the invariant of `Invariants.antt`.
-use Rattle.std.proofs.Common.{sym, ◌∙◌, ◌-◌, zero-le, arith}
+use Rattle.std.proofs.Common.{sym, ◌∙◌, zero-le, arith}
 use Rattle.std.proofs.lemmas.Bool.{not-false}
 use Rattle.chain.specs.Record.{row_of, work_of}
 use Rattle.chain.proofs.Gather.{fine_none, fine_more}
