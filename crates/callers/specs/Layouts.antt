@@ -10,7 +10,6 @@
 --   chain_answer_lies, length_answer_lies, analysis_answer_lies, run_answer_lies, deadline_answer_lies, outcome_lies, outcome_run_lies, recording_lies
 --                  so are the answers
 use Rattle.std.specs.Prelude.{◌≡◌, refl, List, [], ◌∷◌, ◌++◌, map, ℕ}
-use Rattle.std.proofs.Common.{ap, ap₂}
 use Rattle.std.proofs.lemmas.Simd.{map-map}
 use Rattle.std.specs.Int.{w32, w64}
 use mir.Val.{Val, vint, vstruct, of_z, of_list}

@@ -1,5 +1,5 @@
 -- Firing what is left from place i on gives the whole answer, and where a call is refused nothing more is fired.
-use Rattle.std.proofs.Common.{◌≡◌, sym, ◌∙◌, arith}
+use Rattle.std.proofs.Common.{sym, ◌∙◌, arith}
 use Rattle.promises.specs.Replay.{stopped}
 use Rattle.callers.specs.Replayed.{replayed}
 use Rattle.callers.proofs.Steps.{replay_start, replay_next, replay_end}
