@@ -37,12 +37,7 @@ module _ (c : Chain) (s : Run) (l : Losses) (a : RecordAnswer) (e : a ≡ rec_ti
 
 module _ (c : After-rec_grows) where
   answered_whole : Whole c.recording_tick-answer.result.run
-  answered_whole =
-      let run = c.recording_tick-answer.result.run in
-      let counts : length run.counts ≡ 17 = search rules in
-      let held : length run.held ≡ 16 = search rules in
-      let done : length run.done ≡ 16 = search rules in
-      record { counts = counts; held = held; done = done }
+  answered_whole = search rules
 
   answered_listed : length c.recording_tick-answer.result.losses.entries ≡ 256
   answered_listed = search rules

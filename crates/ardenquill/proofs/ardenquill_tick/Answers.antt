@@ -1,5 +1,5 @@
 -- Where the answer is not clean nothing is stored, and the state that the tick answers is the one handed in (`unclean_stays`).
-use Rattle.std.proofs.Common.{rules, ◌≡◌, Bool, false, not, T, length, sym, ap, subst, ◌∙◌}
+use Rattle.std.proofs.Common.{rules, ◌≡◌, Bool, false, not, T, sym, ap, subst, ◌∙◌}
 use Rattle.chain.specs.declared.Chain.{Chain}
 use Rattle.state.specs.declared.Run.{Run}
 use Rattle.slots.specs.Runs.{Whole}
@@ -24,8 +24,5 @@ unclean c s a d y e w f g n =
 
 pub returns-else-is_clean : goal.returns-else-is_clean
 returns-else-is_clean c =
-    let run = c.tick-answer.result.run in
-    let counts : length run.counts ≡ 17 = search rules in
-    let held : length run.held ≡ 16 = search rules in
-    let done : length run.done ≡ 16 = search rules in
-    unclean _ _ _ _ _ c.tick-answer.ensures (record { counts = counts; held = held; done = done }) c.coded-code.ensures c.is_clean.ensures c.if-is_clean.false
+    let whole : Whole c.tick-answer.result.run = search rules in
+    unclean _ _ _ _ _ c.tick-answer.ensures whole c.coded-code.ensures c.is_clean.ensures c.if-is_clean.false
