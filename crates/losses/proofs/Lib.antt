@@ -1,4 +1,3 @@
 mod Pass
-pub mod Slots
 pub mod ChecksLaws
 pub mod LossesLaws
