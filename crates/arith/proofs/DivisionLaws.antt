@@ -1,3 +1,4 @@
+-- Laws of specs/Division.antt that rest on a definition which an edit of must-fail/ changes.
 -- Division rounded down, n / m, division rounded up, and the remainder n % m.
 --   ceil_suc                    the same with no minus, at m = k + 1
 --   ceil_above, _least, _below  m * ceil n m is a multiple of m that is at least n, the least such, and less than m above n

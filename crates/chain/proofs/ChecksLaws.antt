@@ -1,3 +1,4 @@
+-- Laws of specs/Checks.antt that rest on a definition which an edit of must-fail/ changes.
 -- The checks of a chain's own numbers, 2, 4 and 5, which its file and its record share (01, Numbers a call may refuse with).
 --   row_values, row_places     they are the row's words, four bytes apart
 --   count-, range-, order_exact

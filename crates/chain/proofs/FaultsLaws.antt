@@ -1,3 +1,4 @@
+-- Laws of specs/Faults.antt that rest on a definition which an edit of must-fail/ changes.
 -- Checks 4 and 5 in one pass over the rows, which keeps the first fault of each kind.
 --   fine_row q e, fine_row_law      the one test of a queue row and its node row, which holds exactly where both are sound
 --   settled_is                      which is what the two checks say

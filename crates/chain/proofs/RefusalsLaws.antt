@@ -1,3 +1,4 @@
+-- Laws of specs/Refusals.antt that rest on a definition which an edit of must-fail/ changes.
 -- Refusals, and the order in which checks speak (01, Numbers a call may refuse with).
 --   exact_once               a list says the number of its check k, which stands once, at L exactly when the checks before it are silent and it says so
 --   exact_at                 the same of each check, where no number stands twice

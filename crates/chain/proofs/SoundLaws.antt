@@ -1,3 +1,4 @@
+-- Laws of specs/Sound.antt that rest on a definition which an edit of must-fail/ changes.
 -- What a chain that the checks 2, 4 and 5 do not refuse is.
 --   range_parts                     4 part by part: the period, the queue rows one by one, the node rows one by one
 --   row_sound                       4 and 5 of a row are silent, wherever it stands, exactly when the row is sound

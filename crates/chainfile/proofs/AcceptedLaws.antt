@@ -1,3 +1,4 @@
+-- Laws of specs/Accepted.antt that rest on a definition which an edit of must-fail/ changes.
 -- What the reader and the writer accept, both ways.
 --   Placed f, placed       what 1, 2 and 3 leave to be known: the count, the length, the total word, where the tables stand
 --   read_accepts           the reader accepts exactly such a file

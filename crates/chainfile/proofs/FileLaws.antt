@@ -1,3 +1,4 @@
+-- Laws of specs/File.antt that rest on a definition which an edit of must-fail/ changes.
 -- The chain file: what its words say, the checks 1 and 3 of where they stand, and what the reader answers (01, Chain file).
 --   bad_table_law, good_table, overlap_true, overlap_false
 --                              the reasons of 3 hold, or fail, exactly under theirs

@@ -1,3 +1,4 @@
+-- Laws of specs/RoundTrip.antt that rest on a definition which an edit of must-fail/ changes.
 -- What is read and written agrees (demand 2: "Reading a written chain file gives the chain back; writing a chain that was read gives the packed file").
 --   read_of_write                      what the writer leaves is read as the chain, its slots past n zero
 --   trimmed_read                       a chain that the reader gives has its slots past n zero

@@ -1,3 +1,4 @@
+-- Laws of specs/Figures.antt that rest on a definition which an edit of must-fail/ changes.
 -- Deadlines of Feed, each computed: p = 4, c = 3, y = 10, and B in force is b = 10.
 --   first_figure             N_1's first firing: index (0×3+10)/4 + 1 = 3 at the source, due at 2×10
 --   second_figure            its second: index (1×3+10)/4 + 1 = 4, due at 3×10

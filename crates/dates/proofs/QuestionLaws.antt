@@ -1,3 +1,4 @@
+-- Laws of specs/Question.antt that rest on a definition which an edit of must-fail/ changes.
 -- The deadline question (01, Firing): its checks and its answer; and the deadline of a run's next firing.
 --   ask_exact, _silent, _only  11 speaks exactly under its condition, is silent exactly elsewhere, and has its own number
 --   deadline_parts             the checks of a run, then 11 and 13

@@ -1,3 +1,4 @@
+-- Laws of specs/Deadline.antt that rest on a definition which an edit of must-fail/ changes.
 -- The deadline of a node's k-th firing (01, Firing; 000, definition 1).
 --   index_exact, _silent, _only
 --                              13 speaks exactly under its condition, is silent exactly elsewhere, and has its own number

@@ -1,3 +1,4 @@
+-- Laws of specs/Figures.antt that rest on a definition which an edit of must-fail/ changes.
 -- Deadlines of 000's example (01, Figures), each computed.
 --   first_figure, fifth_figure, sixth_figure
 --                            the first two deadlines of N_1, of N_5 and of N_6

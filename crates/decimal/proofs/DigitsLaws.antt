@@ -1,3 +1,4 @@
+-- Laws of specs/Digits.antt that rest on a definition which an edit of must-fail/ changes.
 -- Numbers as decimal text (01, Report program: "writes decimal text", in its example without leading zeros).
 --   decimal_one, _more  its two cases: a number of one digit, and of more
 --   by_digits           what holds of the numbers of one digit, and with one digit more, holds of every number and its text

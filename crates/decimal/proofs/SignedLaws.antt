@@ -1,3 +1,4 @@
+-- Laws of specs/Signed.antt that rest on a definition which an edit of must-fail/ changes.
 -- Signed numbers as decimal text (01, Report program: "a minus sign before a negative margin").
 --   integer_minus, _plain  its two cases
 --   minus_exact            the first byte is a minus sign exactly where the number is negative

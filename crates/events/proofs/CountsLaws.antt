@@ -1,3 +1,4 @@
+-- Laws of specs/Counts.antt that rest on a definition which an edit of must-fail/ changes.
 -- How often the node behind a queue has fired in the immediate run (01, Firing; 004, Lemma 5.1).
 --   fires_below, fires_from     its two cases
 --   fires_pos                   it is 0 unless τ tokens came

@@ -1,3 +1,4 @@
+-- Laws of specs/Events.antt that rest on a definition which an edit of must-fail/ changes.
 -- The events of one queue, and what it holds after them (01, Firing).
 --   contents_after      and what is held after more events
 --   balance             what was held and what was put is what is held and what was taken

@@ -1,3 +1,4 @@
+-- Laws of specs/Figures.antt that rest on a definition which an edit of must-fail/ changes.
 -- Figures of Feed's queue, (4,7,3), from an empty start, each computed.
 --   feed_allowed, feed_settled  each take finds 7, and no put does
 --   feed_top                    before its last two takes the queue holds its minimum

@@ -1,3 +1,4 @@
+-- Laws of specs/Naming.antt that rest on a definition which an edit of must-fail/ changes.
 -- The naming law: the naming count of productions shows the minimum, whatever the order (01, demand 3's naming count).
 --   naming_law                  after so many puts, at some moment the queue has held its minimum
 use Rattle.std.specs.Prelude.{◌≡◌, List, [], ◌∷◌, ◌++◌, ℕ, ◌+◌, ◌-◌, ◌*◌, ◌/◌, ◌%◌, ◌≤◌, ◌<◌}

@@ -1,3 +1,4 @@
+-- Laws of specs/Peak.antt that rest on a definition which an edit of must-fail/ changes.
 -- The peak law: a settled queue never holds more than its minimum (000, Lemma 1).
 --   peak_law                    where each take finds τ and no put does, the minimum is not passed
 --   allowed_before, settled_before

@@ -1,3 +1,4 @@
+-- Laws of specs/Figures.antt that rest on a definition which an edit of must-fail/ changes.
 -- The figures that the scope marks P, files, reports and refusals, in one table under one statement: each row's answer is what the call answers.
 --   figures                  the statement: what the test decides of the table
 use Rattle.std.specs.Prelude.{◌≡◌, ℕ, ◌<◌, length, get_or}

@@ -1,3 +1,4 @@
+-- Laws of specs/Figures.antt that rest on a definition which an edit of must-fail/ changes.
 -- Figures of a history of Feed, from a fresh start, each computed.
 --   feed_permitted, feed_prompt
 --                            manual firing accepts each firing in turn, and the source fires only below threshold

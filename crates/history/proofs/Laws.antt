@@ -1,3 +1,4 @@
+-- Laws of specs/Laws.antt that rest on a definition which an edit of must-fail/ changes.
 -- The laws of every permitted history of an accepted chain, from a fresh start (01, Firing, and demand 3).
 --   fresh_contents, fresh_allowed, fresh_settled
 --                            what queue j sees of a permitted history: what is held, each take finds τ, and in a prompt one no put does

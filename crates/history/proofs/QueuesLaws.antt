@@ -1,3 +1,4 @@
+-- Laws of specs/Queues.antt that rest on a definition which an edit of must-fail/ changes.
 -- What one queue sees of a history (01, Firing).
 --   times_again, times_other how often N_j fires in a history that begins with N_j, and with another node
 --   events_append            histories one after the other

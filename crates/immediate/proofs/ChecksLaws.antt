@@ -1,3 +1,4 @@
+-- Laws of specs/Checks.antt that rest on a definition which an edit of must-fail/ changes.
 -- The immediate run (01, Firing): its checks and its answer.
 --   short_silent, long_says    9 of one node: silent within the limit, and speaking past it
 --   length_exact, _silent, _only

@@ -1,3 +1,4 @@
+-- Laws of specs/Figures.antt that rest on a definition which an edit of must-fail/ changes.
 -- The limit of an immediate run, computed.
 --   limit_figure             a million firings of each node are not refused
 --   past_figure              one more is refused 9, at the source

@@ -1,3 +1,4 @@
+-- Laws of specs/Lent.antt that rest on a definition which an edit of must-fail/ changes.
 -- Fire and settle over a lent flow: what they ask and give of the state that it shows.
 --   fire_ready, _size, _settles, _ends, _ends_sink, settle_size, going_none, _size, _fire, -more, -less, -done
 --                            the steps of the two calls

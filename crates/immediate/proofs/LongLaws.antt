@@ -1,3 +1,4 @@
+-- Laws of specs/Long.antt that rest on a definition which an edit of must-fail/ changes.
 -- What the search for the first count that passes the limit knows on its way.
 --   passing_none, _more      at the start, and one node further
 --   passing_over, _past      9 speaks at the first count that passes, and is silent where none does

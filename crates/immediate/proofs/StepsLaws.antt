@@ -1,3 +1,4 @@
+-- Laws of specs/Steps.antt that rest on a definition which an edit of must-fail/ changes.
 -- What fire and settle ask and give, and the steps of their proofs.
 --   fire_word                its count is within the limit
 --   fire_may                 such a node may fire

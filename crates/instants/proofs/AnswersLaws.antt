@@ -1,3 +1,4 @@
+-- Laws of specs/Answers.antt that rest on a definition which an edit of must-fail/ changes.
 -- The laws of a tick and of a deadline run, of what their calls answer (01, Firing).
 --   answer_one, answer_exactly a tick that is not refused answers one tick, and nothing else
 --   answer_ends                what ends it, ends it at its clock

@@ -1,3 +1,4 @@
+-- Laws of specs/Best.antt that rest on a definition which an edit of must-fail/ changes.
 -- The node that works is the best (01, Firing): over threshold, no deadline earlier, none equal nearer the sink.
 --   tie                    of nodes with one deadline the one nearest the sink is chosen
 --   choose_best            what `choose` takes is the best

@@ -1,3 +1,4 @@
+-- Laws of specs/Exactly.antt that rest on a definition which an edit of must-fail/ changes.
 -- One tick as a relation (01, Firing): what it ends with and what it leaves, and that it is the only one that fits.
 --   one_overflows, _lacks, _cleans
 --                              such an x is overflowed exactly where the source is due and does not fit, ends with 13 exactly where a node lacks its deadline, and

@@ -1,3 +1,4 @@
+-- Laws of specs/Figures.antt that rest on a definition which an edit of must-fail/ changes.
 -- Figures of ticks and deadline runs, each computed (01, P7 and P8).
 --   feed_34                    P7
 --   seven_41, seven_40         P8: the overflow at tick 40, to which a run of 40 ticks does not come

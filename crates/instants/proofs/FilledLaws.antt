@@ -1,3 +1,4 @@
+-- Laws of specs/Filled.antt that rest on a definition which an edit of must-fail/ changes.
 -- What a step of a tick needs of a state, and what 17 asks of it (01, Firing and Numbers a call may refuse with).
 --   running_filled, _balanced, filled_running
 --                              which says both

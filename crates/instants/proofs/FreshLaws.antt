@@ -1,3 +1,4 @@
+-- Laws of specs/Fresh.antt that rest on a definition which an edit of must-fail/ changes.
 -- A deadline run from a fresh start (01, Firing).
 --   fresh_running              a fresh start of an accepted chain passes 17
 --   fresh_rests                and no firing is finished there

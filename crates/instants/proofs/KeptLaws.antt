@@ -1,3 +1,4 @@
+-- Laws of specs/Kept.antt that rest on a definition which an edit of must-fail/ changes.
 -- What the steps of a tick keep of a state (01, Firing and Numbers a call may refuse with).
 --   source_cases, finish_cases what holds of each way in which the source's step, and the effect of a firing, end holds of them
 --   sourced_others, _held, _stays

@@ -1,3 +1,4 @@
+-- Laws of specs/Lacking.antt that rest on a definition which an edit of must-fail/ changes.
 -- 13 of a tick and a run: when it is said (01, Firing).
 --   within_is, past_is         its deadline can be had exactly where none does, and can't exactly where one does
 --   lack_says, lack_silent     13 of one node: speaking where it is over threshold and its deadline can't be had, and silent elsewhere

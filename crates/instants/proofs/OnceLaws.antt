@@ -1,3 +1,4 @@
+-- Laws of specs/Once.antt that rest on a definition which an edit of must-fail/ changes.
 -- What a clean tick leaves (01, Firing), field by field, and that nothing else fits.
 --   works_is                   which is the node that the definition chooses
 --   work_once, work_only       what a tick of work leaves is that, and nothing else is

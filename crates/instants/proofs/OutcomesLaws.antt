@@ -1,3 +1,4 @@
+-- Laws of specs/Outcomes.antt that rest on a definition which an edit of must-fail/ changes.
 -- The three ways in which a tick ends (01, Firing), of a state that passes 17.
 --   lacking_found, dated_of_law  where 13 speaks there is such a node, and where it is silent there is none
 --   lacking_once, _dated       13 has one place, and none where each has its deadline

@@ -1,3 +1,4 @@
+-- Laws of specs/Quiet.antt that rest on a definition which an edit of must-fail/ changes.
 -- Ticks in which nothing but one node's work goes on (01, Firing): so many of them are one step.
 --   worked_done                which one tick of work leaves
 --   quiet_tick                 one tick in which the source is not due and no firing is finished

@@ -1,3 +1,4 @@
+-- Laws of specs/Refusals.antt that rest on a definition which an edit of must-fail/ changes.
 -- When a tick and a deadline run are refused, and what they answer then and else (01, Firing and Numbers a call may refuse with).
 --   clock_exact, _silent, _only
 --                              9 of the clock speaks exactly under its condition, is silent exactly elsewhere, and has its own number

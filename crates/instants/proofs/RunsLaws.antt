@@ -1,3 +1,4 @@
+-- Laws of specs/Runs.antt that rest on a definition which an edit of must-fail/ changes.
 -- A deadline run by instants and by ticks (01, Firing).
 --   ticks_none, ticks_suc      no tick, and one more
 --   instants_ticks             instants are the effect of a firing that is finished, and then ticks

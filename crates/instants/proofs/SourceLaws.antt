@@ -1,3 +1,4 @@
+-- Laws of specs/Source.antt that rest on a definition which an edit of must-fail/ changes.
 -- When the source fires, and what its step leaves (01, Firing), beside the definition of the step.
 --   divides_is                 the step's test holds exactly where y divides t
 --   source_three               what holds of the three ways in which the source's step ends holds of it

@@ -1,3 +1,4 @@
+-- Laws of specs/Spill.antt that rest on a definition which an edit of must-fail/ changes.
 -- An overflow at a finish never happens (01, Firing): from a state that passes 17, of a chain that passes 8, only the source can overflow.
 --   room_after_choice          so the node that works has room for what it produces
 --   finish_fits                and what a tick of work finishes is clean

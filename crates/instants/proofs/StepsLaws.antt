@@ -1,3 +1,4 @@
+-- Laws of specs/Steps.antt that rest on a definition which an edit of must-fail/ changes.
 -- One tick and a deadline run (01, Firing).
 use Rattle.std.specs.Prelude.{◌≡◌, refl, cond, eqb}
 use Rattle.instants.specs.declared.Outcome.{Outcome}

@@ -1,3 +1,4 @@
+-- Laws of specs/Totals.antt that rest on a definition which an edit of must-fail/ changes.
 -- What is counted over a deadline run that is clean (01, Firing).
 --   run_clock                  the clock is T
 --   tick_source, run_source    the source has fired T/y times, rounded up: once at each multiple of y below T; and so after each clean tick

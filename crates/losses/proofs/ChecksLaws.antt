@@ -1,3 +1,4 @@
+-- Laws of specs/Checks.antt that rest on a definition which an edit of must-fail/ changes.
 -- 17 of a list of losses (02, Item 2), before the balance of any queue.
 --   long_exact, _silent, stray_silent, _only, _exact
 --                              each of the two speaks exactly where it should, and is silent elsewhere

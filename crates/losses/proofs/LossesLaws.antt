@@ -1,3 +1,4 @@
+-- Laws of specs/Losses.antt that rest on a definition which an edit of must-fail/ changes.
 -- The list of losses (02, Item 2).
 --   is_noted, noted_slot, _slots, listed_noted, noted_entries
 --                              what `noted` makes is such a list, slot by slot, has 256 slots again, and has the entries before and then this one

@@ -1,3 +1,4 @@
+-- Laws of specs/Capacity.antt that rest on a definition which an edit of must-fail/ changes.
 -- The capacity in force, and the margin.
 --   capacity_written, _minimum
 --                       the two cases

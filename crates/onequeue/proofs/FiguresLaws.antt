@@ -1,3 +1,4 @@
+-- Laws of specs/Figures.antt that rest on a definition which an edit of must-fail/ changes.
 -- Figures of 01 and 000, computed.
 --   least-figures                         the minimum and the naming count of queues (p,τ,c) that start empty
 --   started_figure                        a queue that starts with 1 token, (4,4,2): it holds 3 before the last production, and b is 7

@@ -1,3 +1,4 @@
+-- Laws of specs/Least.antt that rest on a definition which an edit of must-fail/ changes.
 -- The minimum b of a queue, with its naming count.
 --   least_is            that is so of `least s p τ c`, and of no other pair
 --   minimum_produce, _threshold, _bound, _fits

@@ -1,3 +1,4 @@
+-- Laws of specs/Residue.antt that rest on a definition which an edit of must-fail/ changes.
 -- The residue: the most that a queue holds while it is below its threshold.
 --   residue_largest     which the residue is
 --   residue_000, _004   the residue as 000 writes it and as 004 does, at s = 0; so the two agree

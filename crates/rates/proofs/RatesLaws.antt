@@ -1,3 +1,4 @@
+-- Laws of specs/Rates.antt that rest on a definition which an edit of must-fail/ changes.
 -- The rate of a node from that of the node before it (01, Rates, load, minimum; 003, equation 1), over plain numbers: a queue
 -- with produce p and consume c, and a node before it that fires x times in y ticks.
 --   permeate_figure          the rate that a spreadsheet's g gets wrong, computed

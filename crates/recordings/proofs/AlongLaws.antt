@@ -1,3 +1,4 @@
+-- Laws of specs/Along.antt that rest on a definition which an edit of must-fail/ changes.
 -- The laws of a recording tick and of a recording run, of what their calls answer (02, Item 2).
 --   rec_answer_of_law, _ran    what a recording tick that is not refused finds, and that it answers what the tick leaves
 --   rec_answer_one, _exactly   which is one tick, and nothing else

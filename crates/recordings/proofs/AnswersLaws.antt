@@ -1,3 +1,4 @@
+-- Laws of specs/Answers.antt that rest on a definition which an edit of must-fail/ changes.
 -- What a recording tick and a recording run are refused with, and what they answer (02, Item 2).
 --   shallow_run, shallow_tick  of a queue in which nothing fits, its capacity being below the minimum (Figures), neither call refuses anything
 --   late_long                  17 of the list is said before 9 of the clock

@@ -1,3 +1,4 @@
+-- Laws of specs/AtMost.antt that rest on a definition which an edit of must-fail/ changes.
 -- How many losses one recording tick can note (02, Item 2): the source's, and that of a firing then finished.
 --   tick_notes                 a tick notes two at most
 --   tick_room                  so a list with two slots left is not found full

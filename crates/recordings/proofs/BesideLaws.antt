@@ -1,3 +1,4 @@
+-- Laws of specs/Beside.antt that rest on a definition which an edit of must-fail/ changes.
 -- A recording run beside the deadline run (02, Item 2), of any accepted chain, its capacities at or above the minimum or below.
 --   recorded_clean, _undated, _lost, _full
 --                              what a step of the deadline run is in a recording run: the same where it is clean or 13, a loss or 15 where it overflows

@@ -1,3 +1,4 @@
+-- Laws of specs/Checks.antt that rest on a definition which an edit of must-fail/ changes.
 -- 17 of a state with its list of losses (02, Item 2).
 --   rec_state_exact, _silent, _fine, _only
 --                              it speaks exactly under its condition, is silent exactly elsewhere, naming no place, and has its own number

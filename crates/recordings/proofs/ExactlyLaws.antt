@@ -1,3 +1,4 @@
+-- Laws of specs/Exactly.antt that rest on a definition which an edit of must-fail/ changes.
 -- One recording tick as a relation (02, Item 2): what it ends with and what it leaves, and that it is the only one that fits.
 --   HasBegun c s l, has_begun  some u and m are, where it is not so
 --   rec_is_one, rec_tick_exactly

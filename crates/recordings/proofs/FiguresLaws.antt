@@ -1,3 +1,4 @@
+-- Laws of specs/Figures.antt that rest on a definition which an edit of must-fail/ changes.
 -- Figures of recording runs, each computed (02, Item 2).
 --   feed_90, feed_90_losses    Feed with e=7 and B=10, which as a deadline run overflows at tick 40: two losses in 90 ticks
 --   feed_41_firings            its firings to tick 41, one of them lost

@@ -1,3 +1,4 @@
+-- Laws of specs/Growing.antt that rest on a definition which an edit of must-fail/ changes.
 -- The trace of a recording run, tick by tick (02, Item 2), from any state that a step may be made in and any list of 256 slots.
 --   begun_clock, tick_clock    the source's step does not move the clock, and a clean tick moves it by one
 --   tick_instants              "an entry's tick is t for the source's step and the finish instant for a node", of every firing, lost or not

@@ -1,3 +1,4 @@
+-- Laws of specs/Kept.antt that rest on a definition which an edit of must-fail/ changes.
 -- What a recording tick and so many of them keep (02, Item 2).
 --   clean_room                 what is clean was not
 --   source_leads, begun_leads, work_leads

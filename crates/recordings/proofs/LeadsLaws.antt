@@ -1,3 +1,4 @@
+-- Laws of specs/Leads.antt that rest on a definition which an edit of must-fail/ changes.
 -- What firings make of a state and a list, lost or not (02, Item 2).
 --   leads_none, _fired, _dropped, _then
 --                              no firing, one that fits, one that is lost, and one history after the other

@@ -1,3 +1,4 @@
+-- Laws of specs/Left.antt that rest on a definition which an edit of must-fail/ changes.
 -- What steps of the deadline run leave before a clock, and what a recording run needs of it to go on (02, Item 2).
 --   left_queue                 the queue that overflows is one of the chain
 --   left_with, left_clean, _undated, _source

@@ -1,3 +1,4 @@
+-- Laws of specs/Marked.antt that rest on a definition which an edit of must-fail/ changes.
 -- A history in which each firing is marked as lost or not (02, Item 2), with no clock, deadline or list.
 --   rec_after_none, _lost, _fits, losses_none, _lost, _fits
 --                              what the first firing does and loses

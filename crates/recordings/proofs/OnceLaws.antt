@@ -1,3 +1,4 @@
+-- Laws of specs/Once.antt that rest on a definition which an edit of must-fail/ changes.
 -- What the steps of a recording tick leave (02, Item 2), field by field, and that nothing else fits.
 --   source_noted, source_noted_only
 --                              what it leaves where it is clean is that, and nothing else is

@@ -1,3 +1,4 @@
+-- Laws of specs/Outcomes.antt that rest on a definition which an edit of must-fail/ changes.
 -- What a recording tick says and leaves, by its conditions (02, Item 2).
 --   says_0, says_13, says_15_source, says_15_finish
 --                              clean, 13 and 15 are said with these, each under its condition

@@ -1,3 +1,4 @@
+-- Laws of specs/Paced.antt that rest on a definition which an edit of must-fail/ changes.
 -- The counts of a recording run from a fresh start with an empty list (02, Item 2): no node fires more often than the clock ticks, its production lost or not.
 --   rec_fresh_paced, rec_tick_paced
 --                              a fresh start with an empty list is one, and a clean tick leaves one

@@ -1,3 +1,4 @@
+-- Laws of specs/RecRefusals.antt that rest on a definition which an edit of must-fail/ changes.
 -- When a recording tick and a recording run are refused, and what they answer then and else (02, Item 2).
 --   rec_tick_parts             the checks of an analysis, then 17 with the list, then both of 9
 --   rec_tick_numbered          each speaks with its own number

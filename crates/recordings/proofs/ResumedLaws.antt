@@ -1,3 +1,4 @@
+-- Laws of specs/Resumed.antt that rest on a definition which an edit of must-fail/ changes.
 -- A recording run as deadline runs that are joined by losses (02, Item 2): how it goes on from each outcome of the deadline run.
 --   ticks_left, ticks_reach    ticks up to clock U leave such a y, and where they are clean clock U is reached
 --   ticks_from_law             so a recording run is that which goes on from those ticks

@@ -1,3 +1,4 @@
+-- Laws of specs/Runs.antt that rest on a definition which an edit of must-fail/ changes.
 -- A recording run by instants and by ticks (02, Item 2).
 --   rec_unclean_undated, _full, rec_full_undated
 --                              no outcome that ends a recording run is clean, and a full list is not 13

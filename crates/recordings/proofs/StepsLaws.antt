@@ -1,3 +1,4 @@
+-- Laws of specs/Steps.antt that rest on a definition which an edit of must-fail/ changes.
 -- One recording tick and a recording run (02, Item 2); "rec" before a name says: the same of a recording run.
 use Rattle.std.specs.Prelude.{◌≡◌, refl, cond, [], ◌∷◌, ℕ, eqb}
 use Rattle.recordings.specs.declared.RecordOutcome.{RecordOutcome}

@@ -1,3 +1,4 @@
+-- Laws of specs/Totals.antt that rest on a definition which an edit of must-fail/ changes.
 -- What is counted over a recording run that is clean (02, Item 2): a lost production is worked for and counted as any other.
 --   rec_run_clock              the clock is T
 --   rec_run_source             the source has fired T/y times, rounded up, lost or not

@@ -1,3 +1,4 @@
+-- Laws of specs/Traced.antt that rest on a definition which an edit of must-fail/ changes.
 -- A recording run from a fresh start with an empty list, by the history of its firings (02, Item 2).
 --   rec_leads                  they lead from a fresh start to what it leaves
 --   rec_fair, rec_after_law    a production is lost exactly where it does not fit, and counts and contents after the firings are the run's

@@ -1,3 +1,4 @@
+-- Laws of specs/Answers.antt that rest on a definition which an edit of must-fail/ changes.
 -- "In every run state the slots past n are neither read nor changed" (01, Firing), nor are those past the count of a list of losses, of what a recording tick and a
 -- recording run answer (02, Item 2).
 --   rec_past_n               chains, states and lists that differ in such slots only have such answers of a tick

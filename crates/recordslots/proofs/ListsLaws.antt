@@ -1,3 +1,4 @@
+-- Laws of specs/Lists.antt that rest on a definition which an edit of must-fail/ changes.
 -- Lists of losses of which only the entries are compared, and what a recording tick leaves, of which only those and the first slots are (01, Firing: "the
 -- slots past n are neither read nor changed"; 02, Item 2).
 --   losses_refl              a list and itself

@@ -1,3 +1,4 @@
+-- Laws of specs/Queues.antt that rest on a definition which an edit of must-fail/ changes.
 -- No step overflows a queue past n, so that the row whose production is dropped is one of the first n (01, Firing).
 --   sourced-, finish- and finished_queued
 --                            the steps of a tick that can overflow one

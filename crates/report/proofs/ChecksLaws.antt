@@ -1,3 +1,4 @@
+-- Laws of specs/Checks.antt that rest on a definition which an edit of must-fail/ changes.
 -- The report call's checks (01, Numbers a call may refuse with; Report program).
 --   report_1 .. report_7, report_10
 --                          when a file is refused with each number

@@ -1,3 +1,4 @@
+-- Laws of specs/Room.antt that rest on a definition which an edit of must-fail/ changes.
 -- Lent bytes that are always enough.
 --   report_room    with room for the longest report the report call never says 10
 --   report_roomy   with that room the report call says what these say

@@ -1,3 +1,4 @@
+-- Laws of specs/Feeds.antt that rest on a definition which an edit of must-fail/ changes.
 -- "Each line ended by one line feed" (01, Report program).
 --   report_feeds       a report of n queues has n + 2
 use Rattle.std.specs.Prelude.{◌≡◌, refl, ◌++◌, ℕ, zero, suc, ◌+◌, get_or}

@@ -1,3 +1,4 @@
+-- Laws of specs/Heading.antt that rest on a definition which an edit of must-fail/ changes.
 -- The first line, which is always the same (01, Report program).
 --   headed_true     that is so exactly where its first bytes are that line
 --   first_line_law  it is the first line of every report

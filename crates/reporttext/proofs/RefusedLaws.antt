@@ -1,3 +1,4 @@
+-- Laws of specs/Refused.antt that rest on a definition which an edit of must-fail/ changes.
 -- The line of a refusal (01, Report program: "a refusal prints only the line `refused,number,place`").
 --   refusal_short     it has no more
 use Rattle.std.specs.Prelude.{ℕ, ◌^◌, ◌≤◌, ◌<◌, length}

@@ -1,3 +1,4 @@
+-- Laws of specs/Short.antt that rest on a definition which an edit of must-fail/ changes.
 -- How long a report can be.
 --   line_short       a queue's line has no more
 --   report_short     the report of an accepted chain has no more

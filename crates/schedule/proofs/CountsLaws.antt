@@ -1,3 +1,4 @@
+-- Laws of specs/Counts.antt that rest on a definition which an edit of must-fail/ changes.
 -- The exact counts of the immediate run (01, Firing; 004, Lemma 5.1), node by node from the source on.
 --   feed_counts              P5: Feed's sink
 --   fed_mono, F-mono         more firings give no fewer

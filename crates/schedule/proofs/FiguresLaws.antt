@@ -1,3 +1,4 @@
+-- Laws of specs/Figures.antt that rest on a definition which an edit of must-fail/ changes.
 -- Immediate runs of the factory chains, each computed.
 --   permeate_schedule        the order of Permeate's run of 3: the second firing of N_1 sets off two of the sink
 --   flush_counts             the counts of Flush's nodes after 32 firings of the source

@@ -1,3 +1,4 @@
+-- Laws of specs/Reached.antt that rest on a definition which an edit of must-fail/ changes.
 -- What holds of every state that firings lead to from a fresh start, whatever their order (01, Firing; 004, Lemma 5.1).
 --   calm_counts              a calm state has each node's count by its producer's
 --   counts                   and so by the source's: they are F

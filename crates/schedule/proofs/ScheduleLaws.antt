@@ -1,3 +1,4 @@
+-- Laws of specs/Schedule.antt that rest on a definition which an edit of must-fail/ changes.
 -- The order of the immediate run (01, Firing), as a history that is computed.
 --   burst_exact              its minus is exact
 --   feed_schedule            the order of Feed's run of 4, computed

@@ -1,3 +1,4 @@
+-- Laws of specs/Accepted.antt that rest on a definition which an edit of must-fail/ changes.
 -- What a chain that the analysis accepts is, and that each of its numbers fits its width.
 --   size_accepts             a sound chain is accepted exactly when 6 and 7 are silent
 --   analyse_accepts          a chain is not refused exactly when it is accepted

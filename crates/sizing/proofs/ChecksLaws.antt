@@ -1,3 +1,4 @@
+-- Laws of specs/Checks.antt that rest on a definition which an edit of must-fail/ changes.
 -- The checks of the analysis, 6 and 7, and of a run, 8 (01, Numbers a call may refuse with).
 --   limit, limit_word          4,294,967,295, the largest number of 32 bits
 --   analyse_parts, run_parts   each list is the one before it, and then its own checks

@@ -1,3 +1,4 @@
+-- Laws of specs/Figures.antt that rest on a definition which an edit of must-fail/ changes.
 -- Analyses of the factory chains, each computed.
 --   feed-, permeate-, flush_figure   P1, P2 and P3, with P6's naming counts
 --   written_figure                   P4: Permeate with capacities 12 and 5

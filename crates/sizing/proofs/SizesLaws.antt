@@ -1,3 +1,4 @@
+-- Laws of specs/Sizes.antt that rest on a definition which an edit of must-fail/ changes.
 -- The analysis of a chain (01, Rates, load, minimum): its queues one by one, and its load.
 --   margin_unwritten, _written
 --                            the margin where the file says 0, and where it says a capacity

@@ -1,3 +1,4 @@
+-- Laws of specs/Chains.antt that rest on a definition which an edit of must-fail/ changes.
 -- The slots of a chain past n are not read: chains that differ only there have the same answers (01, Firing: "the slots past n are neither
 -- read nor changed").
 --   alike_refl               a chain and itself

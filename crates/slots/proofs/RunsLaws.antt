@@ -1,3 +1,4 @@
+-- Laws of specs/Runs.antt that rest on a definition which an edit of must-fail/ changes.
 -- "In every run state the slots past n are neither read nor changed" (01, Firing).
 --   fresh_alike              chains that differ in slots past n only have the same fresh start
 --   state-, over-, cramped_alike

@@ -1,3 +1,4 @@
+-- Laws of specs/Fire.antt that rest on a definition which an edit of must-fail/ changes.
 -- Manual firing (01, Firing), and what a call that gives a state answers.
 --   node_lent                  which look at counts and contents alone
 --   fire_parts                 the checks of the analysis, then 17, then 9, 11 and 12

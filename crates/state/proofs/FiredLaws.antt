@@ -1,3 +1,4 @@
+-- Laws of specs/Fired.antt that rest on a definition which an edit of must-fail/ changes.
 -- What one firing does (01, Firing; 004, definition 5.2).
 --   count_fired, _other      N_i has fired once more, and no other node
 --   held_output, _input, _other, _sink

@@ -1,3 +1,4 @@
+-- Laws of specs/Alike.antt that rest on a definition which an edit of must-fail/ changes.
 -- The slots of a chain and of a state past n are not read by a tick (01, Firing: "the slots past n are neither read nor changed"). Throughout, c and d
 -- are chains, and s and t states, that differ in slots past n only.
 --   consumed_alike           what a firing takes from its input queue

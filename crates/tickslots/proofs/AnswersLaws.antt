@@ -1,3 +1,4 @@
+-- Laws of specs/Answers.antt that rest on a definition which an edit of must-fail/ changes.
 -- "In every run state the slots past n are neither read nor changed" (01, Firing), of a tick and of a deadline run.
 --   past_n                   chains and states that differ in slots past n only have such answers of a tick
 --   past_kept                each of which has its own slots past n as they were

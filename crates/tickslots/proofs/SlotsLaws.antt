@@ -1,3 +1,4 @@
+-- Laws of specs/Slots.antt that rest on a definition which an edit of must-fail/ changes.
 -- Lists, states and outcomes of which only the first slots are compared, and such of which only the others are (01, Firing: "the slots past n are
 -- neither read nor changed").
 --   alike_set, kept_set      one slot written in both, and one of the first n written

@@ -1,3 +1,4 @@
+-- Laws of specs/Entries.antt that rest on a definition which an edit of must-fail/ changes.
 -- The instants of a trace, node by node, and what they are in a deadline run that is clean (01, Firing).
 --   entries_count              N_i has as many of them as it has fired
 --   source_entries             the source's are the multiples of y below T, once each

@@ -1,3 +1,4 @@
+-- Laws of specs/Figures.antt that rest on a definition which an edit of must-fail/ changes.
 -- Figures of traces, each computed (01, P7 and P8, and Firing).
 --   feed_34                  Feed, T = 34
 --   seven_41                 Feed with e = 7, T = 41, which overflows at tick 40

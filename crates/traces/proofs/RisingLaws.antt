@@ -1,3 +1,4 @@
+-- Laws of specs/Rising.antt that rest on a definition which an edit of must-fail/ changes.
 -- The instants of a trace (01, Firing).
 --   tick_rising, trace_rising  the instants of one tick, and of so many, lie between the clock before and the clock after
 --   run_rising                 those of a deadline run, from a fresh start

@@ -1,3 +1,4 @@
+-- Laws of specs/Traced.antt that rest on a definition which an edit of must-fail/ changes.
 -- The firings of a deadline run are a permitted history (01, Firing, and demand 3).
 --   finish_entry_law           the firing that is finished, by the node whose work is done
 --   tick_entries, tick_entries_none

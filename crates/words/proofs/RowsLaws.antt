@@ -1,3 +1,4 @@
+-- Laws of specs/Rows.antt that rest on a definition which an edit of must-fail/ changes.
 -- Queue rows: five words in a row (01, Chain file: "a queue row has five words").
 --   row_there, _past  its two cases
 --   row_made          five words, read where the row is there, are the row

@@ -1,3 +1,4 @@
+-- Laws of specs/Words.antt that rest on a definition which an edit of must-fail/ changes.
 -- Words of 32 bits, the lowest byte first (01, Chain file: "all words are 32 bits, little-endian").
 --   word_there, _past   its two cases
 --   lowest_first        one word in numbers
