@@ -1,7 +1,8 @@
 -- What the public calls promise of the immediate run, handed on from the crates `events` (the counts of one queue), `schedule` (its order and
 -- its counts) and `immediate` (its checks and its answer).
 unfoldable pub use Rattle.events.specs.Counts.{fires}
-pub use Rattle.events.proofs.CountsLaws.{fires_below, fires_from, fires_reach, fires_mono, fires_shift, fires_unique}
+pub use Rattle.events.proofs.CountsLaws.{fires_below, fires_reach, fires_mono, fires_shift, fires_unique}
+pub use Rattle.events.proofs.FiresFrom.{fires_from}
 pub use Rattle.schedule.specs.Counts.{fed, turns_of}
 pub use Rattle.schedule.proofs.CountsLaws.{fed_mono, F-mono, F-feeds, turns_source, turns_next, rates, rate}
 unfoldable pub use Rattle.schedule.specs.Counts.{F}

@@ -13,7 +13,8 @@ pub use Rattle.state.specs.Fire.{fire_numbers, Firing, fresh_refusal, fresh_stat
 pub use Rattle.state.proofs.FireLaws.{fire_12, fire_earlier, fire_numbered, firing_is}
 unfoldable pub use Rattle.state.specs.Fire.{fresh_answer, fire_refusal, fire_answer}
 pub use Rattle.slots.specs.Chains.{AlikeChains, flat_alike}
-pub use Rattle.slots.proofs.ChainsLaws.{alike_refl, trimmed_alike, record_alike, chain_alike, rates_alike}
+pub use Rattle.slots.proofs.ChainsLaws.{alike_refl, record_alike, chain_alike, rates_alike}
+pub use Rattle.slots.proofs.Trimmed.{trimmed_alike}
 pub use Rattle.slots.proofs.ChainsLaws.{cycle_alike, busy_alike, sizes_alike, analyse_alike, analysis_alike, run_alike, run_analysis_alike}
 pub use Rattle.slots.specs.Runs.{AlikeRuns, KeptPast, Whole, whole_kept, fresh_whole}
 pub use Rattle.slots.proofs.RunsLaws.{fresh_alike, fire_alike, past_n, past_kept}

@@ -13,6 +13,7 @@
 --                              the checks of a chain handed in as a record, in order, and what it is refused with
 --   FieldOut, FieldIn, field_at, FirstOut, FirstOver
 --                              01's conditions of 4 and 5, in words
+-- What is named here and not declared stands in proofs/ChecksLaws.antt.
 use Rattle.std.proofs.Math.Logic.Iff
 use Rattle.std.specs.Prelude.{◌≡◌, ◌↔◌, List, [], ◌∷◌, ◌++◌, map, ℕ, ◌+◌, ◌*◌, ◌≤◌, ◌<◌, ltb, length, get_or}
 use Rattle.std.proofs.Common.{arith}

@@ -6,6 +6,7 @@
 --   settled y f                     4 of the period and of the rows, then 5
 --   Few n, FineRows c k, TablesAt n q w, RowPlace at
 --                                   what the code of the pass asks: few rows, the first k of them fine, at places of a file
+-- What is named here and not declared stands in proofs/FaultsLaws.antt.
 use Rattle.std.specs.Prelude.{◌≡◌, Bool, true, ◌&&◌, ℕ, ◌+◌, ◌*◌, ◌≤◌, ◌<◌, leb, eqb}
 use Rattle.words.specs.Table.{tab}
 use Rattle.words.specs.declared.Queue.{Queue}

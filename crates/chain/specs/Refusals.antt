@@ -12,7 +12,7 @@
 --                            lists in a row; a number for each check; and a check that speaks has its own
 --   absent, distinct         a number stands in no list; no number of a list is 0 or stands twice
 --   elsewhere k Ns, stands_once k Ns
---                            the numbers at every place but k; and the one at k is not 0 and is none of them; stands-once-figure: of 1, 2, 1, 3
+--                            the numbers at every place but k; and the one at k is not 0 and is none of them; stands_once_figure: of 1, 2, 1, 3
 --   Others N Ns              N is none of the numbers, of which each is to be shown
 --   number_of, silent_as     equal refusals have equal numbers, and are silent together
 --   or_left, -right, -both   the cases of or_else, as code has them
@@ -27,6 +27,7 @@
 --   only_test, _fine, _or, _map, _tab
 --                            what keeps to one number
 --   said_earlier             a list says a number that its last checks do not have exactly when the checks before these say it
+-- What is named here and not declared stands in proofs/RefusalsLaws.antt.
 use Rattle.std.proofs.Math.Logic.Iff
 use Rattle.std.specs.Prelude.{◌≡◌, Bool, true, false, cond, not, ◌&&◌, ◌↔◌, ◌≢◌, ◌⊎◌, T, eqb, length, get_or, take, drop}
 use Rattle.std.proofs.Math.Path.{refl, sym, ap}

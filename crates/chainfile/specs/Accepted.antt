@@ -3,6 +3,7 @@
 --   AcceptedFile f         what a file that the reader accepts is
 --   write_accepts          the writer accepts exactly a sound chain that fits
 --   read_fine, write_fine  a call that is silent answers number 0 with place 0
+-- What is named here and not declared stands in proofs/AcceptedLaws.antt.
 use Rattle.std.proofs.Math.Logic.Iff
 use Rattle.std.specs.Prelude.{◌≡◌, ◌↔◌, List, [], ◌∷◌, ℕ, ◌+◌, ◌*◌, ◌≤◌, length}
 use Rattle.std.proofs.Common.{arith}

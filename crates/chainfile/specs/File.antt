@@ -20,6 +20,7 @@
 --   length_exact, offset_exact each check speaks exactly under its condition
 --   length_silent              and 1 is silent exactly where it does not hold
 --   length_only, offset_only   each speaks with its own number only
+-- What is named here and not declared stands in proofs/FileLaws.antt.
 use Rattle.std.proofs.Math.Logic.Iff
 use Rattle.std.specs.Prelude.{◌≡◌, Bool, ◌||◌, ◌&&◌, not, ◌↔◌, ◌≢◌, ◌⊎◌, List, [], ◌∷◌, ℕ, ◌+◌, ◌*◌, ◌%◌, ◌≤◌, ◌<◌, ltb, eqb, length, take, drop}
 use Rattle.std.proofs.Common.{arith}

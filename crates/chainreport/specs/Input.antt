@@ -1,15 +1,11 @@
 -- How much of its input the program has to hold (01, Report program: "reads a chain file from standard input").
 --   longest_file     the longest file that 1 lets pass
 --   LetPass m        a file of m bytes that 1 lets pass
---   longest_passes   there is one of that length; of longer ones there is none (prints_too_long)
 --   IsPrefixLen n b  n of the bytes b stand at its front, and no more than there are
 --   Holds i b n      the first n of the bytes b are what b has room for of the input i
 --   Answers b n t    the text t is what is to be printed of every input that b holds so
---   prints_too_long  of an input above that length the line of 1 at 0 is printed
---   front_enough     so a front above that length tells what is to be printed of the whole input
---   answers_exactly  and what is printed of the bytes held is what is to be printed of the input, however much of it was left unread
 --   ReadInto i b n   of the input i the first n bytes stand at the front of b, and none is left unread that b has room for
---   answers_inputs   so a text answers exactly when it is what is to be printed of every input that was read into b so
+-- What is named here and not declared stands in proofs/InputLaws.antt.
 use Rattle.std.specs.Prelude.{◌≡◌, refl, ◌↔◌, ◌≢◌, List, ◌∷◌, ◌++◌, ℕ, ◌+◌, ◌*◌, ◌≤◌, ◌<◌, min, length, get_or, take, replicate}
 use Rattle.std.proofs.Common.{sym, ap, ◌∙◌, inl, inr, arith, lit≤, length-take, length-take-le, take_all, get_or-take, ext_get_or}
 use Rattle.std.proofs.Math.Logic.{by_cases}
@@ -18,7 +14,6 @@ use Rattle.ardenquill.specs.Files.{read_answer}
 use Rattle.promises.specs.FileInBytes.{Word, Header, read_length, header_known}
 use Rattle.promises.specs.Columns.{IsRefusal, refusal_is}
 use Rattle.chainreport.specs.Printed.{printed}
-use Rattle.chainreport.specs.PrintedInColumns.{prints_as_read}
 
 -- 1: "length under 20 or over 4,096"
 abbrev pub longest_file : ℕ
@@ -29,19 +24,6 @@ pub record LetPass (m : ℕ) : Type 0 where
   pub file : List ℕ
   pub long : length file ≡ m
   pub not_1 : (read_answer file).number ≢ 1
-
--- zeros but for the total word, which is 4,096
-pub longest_passes : LetPass longest_file
-longest_passes = record { file = f; long = refl; not_1 = (header_known f).1 (record { n = 0; y = 0; q = 0; w = 0; is = record { long = (lit≤ tt, lit≤ tt); words = words } }) }
-  where
-    f : List ℕ
-    f = replicate 17 0 ++ (16 ∷ replicate 4078 0)
-
-    word : (at : ℕ) → at + 4 ≤ 4096 → Word f at (get_or f at 0 + 256 * get_or f (at + 1) 0 + 65536 * get_or f (at + 2) 0 + 16777216 * get_or f (at + 3) 0)
-    word at l = record { inside = l; is = refl }
-
-    words : Header f 0 0 0 0 4096
-    words = record { count = word 0 (omega arith); period = word 4 (omega arith); queues = word 8 (omega arith); nodes = word 12 (omega arith); total = word 16 (omega arith) }
 
 -- `&b[..n]` is in bounds and has n bytes
 abbrev pub IsPrefixLen : ℕ → List ℕ → Type 0
@@ -55,56 +37,8 @@ Holds i b n = take n b ≡ take (length b) i
 abbrev pub Answers : List ℕ → ℕ → List ℕ → Type 0
 Answers b n t = (i : List ℕ) → Holds i b n → t ≡ printed i
 
-pub prints_too_long : (f : List ℕ) → longest_file < length f → IsRefusal 1 0 (printed f)
-prints_too_long f l =
-    let read = (read_length f 0).1 (inr (inl l), refl) in
-    rw (← read.0, ← read.1) (prints_as_read f (λ z. omega (arith, sym read.0 ∙ z)))
-
-pub front_enough : (i : List ℕ) (m : ℕ) → longest_file < m → printed (take m i) ≡ printed i
-front_enough i m l = by_cases (dec_lt m (length i)) over (λ fits. ap printed (take_all m i (omega (arith, fits))))
-  where
-    over : m < length i → printed (take m i) ≡ printed i
-    over k =
-        let front = prints_too_long (take m i) (omega (arith, length-take-le m i (omega arith))) in
-        (refusal_is 1 0 _).0 front ∙ sym ((refusal_is 1 0 _).0 (prints_too_long i (omega arith)))
-
-pub answers_exactly : (b t : List ℕ) (n : ℕ) → longest_file < length b → n ≤ length b → Answers b n t ↔ (t ≡ printed (take n b))
-answers_exactly b t n long l = (
-  λ a. a (take n b) (sym (take_all (length b) (take n b) (omega (arith, length-take-le n b l)))),
-  λ e i h. e ∙ ap printed h ∙ front_enough i (length b) long,
-)
-
 -- "reads a chain file from standard input", byte by byte: those at the front of b are the input's, and there are fewer than the input has only where b is full
 pub record ReadInto (i b : List ℕ) (n : ℕ) : Type 0 where
   pub bytes : (k : ℕ) → k < n → get_or b k 0 ≡ get_or i k 0
   pub within : n ≤ length i
   pub rest : n < length i → n ≡ length b
-
--- which is what it is to hold an input
-read_into_is : (i b : List ℕ) (n : ℕ) → n ≤ length b → Holds i b n ↔ ReadInto i b n
-read_into_is i b n l = (out, back)
-  where
-    front : length (take n b) ≡ n
-    front = length-take-le n b l
-
-    room : length (take (length b) i) ≡ min (length b) (length i)
-    room = length-take (length b) i
-
-    out : Holds i b n → ReadInto i b n
-    out h =
-        let count : n ≡ min (length b) (length i) = sym front ∙ ap length h ∙ room in
-        record {
-          bytes = λ k m. sym (get_or-take n b k 0 m) ∙ ap (λ (t : List ℕ). get_or t k 0) h ∙ get_or-take (length b) i k 0 (omega arith);
-          within = omega (arith, count);
-          rest = λ m. omega (arith, count);
-        }
-
-    back : ReadInto i b n → Holds i b n
-    back r =
-        let count : n ≡ min (length b) (length i) =
-        by_cases (dec_lt n (length i)) (λ m. omega (arith, r.rest m)) (λ all. omega (arith, r.within, all)) in
-        ext_get_or 0 (take n b) (take (length b) i) (front ∙ count ∙ sym room)
-        (λ k m. get_or-take n b k 0 (omega (arith, front)) ∙ r.bytes k (omega (arith, front)) ∙ sym (get_or-take (length b) i k 0 (omega (arith, front))))
-
-pub answers_inputs : (b t : List ℕ) (n : ℕ) → n ≤ length b → Answers b n t ↔ ((i : List ℕ) → ReadInto i b n → t ≡ printed i)
-answers_inputs b t n l = (λ a i r. a i ((read_into_is i b n l).1 r), λ a i h. a i ((read_into_is i b n l).0 h))

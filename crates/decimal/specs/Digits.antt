@@ -6,6 +6,7 @@
 --   value_of t           the number that digits in a row stand for
 --   Digits t            each byte of t is a digit
 --   column n b          a number's text and one byte behind it
+-- What is named here and not declared stands in proofs/DigitsLaws.antt.
 use Rattle.std.specs.Prelude.{◌≡◌, refl, Bool, true, false, ◌⊎◌, List, [], ◌∷◌, ◌++◌, ℕ, zero, suc, ◌+◌, ◌*◌, ◌-◌, ◌/◌, ◌%◌, ◌≤◌, ◌<◌, ltb, length, get_or}
 use Rattle.std.proofs.Common.{inl, inr, ltb-true, ltb-false}
 

@@ -1,6 +1,6 @@
 -- Laws of specs/Counts.antt that rest on a definition which an edit of must-fail/ changes.
 -- How often the node behind a queue has fired in the immediate run (01, Firing; 004, Lemma 5.1).
---   fires_below, fires_from     its two cases
+--   fires_below                 it is 0 below τ; fires_from, in FiresFrom.antt, has the other case
 --   fires_pos                   it is 0 unless τ tokens came
 --   fires_reach                 it is k + 1 or more exactly from τ + c * k tokens on
 --   fires_mono, fires_shift     more tokens give no fewer firings; c * k more tokens, k more firings
@@ -11,16 +11,12 @@ use Rattle.std.proofs.Common.{sym, ap, lt_of_not-le, le-div_iff_mul-le, arith, l
 use Rattle.std.proofs.Math.Decide.{dec_le}
 use Rattle.arith.specs.Division.{floor_above, floor_unique, floor_mono, floor_shift}
 use Rattle.events.specs.Counts.{fires}
+use Rattle.events.proofs.FiresFrom.{fires_from}
 
 -- below τ none
 pub fires_below : (τ c m : ℕ) → m < τ → fires τ c m ≡ 0
 unfolding fires
 fires_below τ c m h = simp (lt-ltb m τ h)
-
--- and from τ on
-pub fires_from : (τ c m : ℕ) → τ ≤ m → fires τ c m ≡ (m - τ) / c + 1
-unfolding fires
-fires_from τ c m h = simp (le-ltb m τ h)
 
 -- a firing needs τ tokens
 pub fires_pos : (τ c m : ℕ) → 0 < fires τ c m → τ ≤ m

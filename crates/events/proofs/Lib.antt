@@ -1,3 +1,4 @@
+pub mod FiresFrom
 pub mod CountsLaws
 pub mod EventsLaws
 pub mod FiguresLaws

@@ -4,6 +4,7 @@
 --   feed_three                  its events up to the third put
 --   feed_three_allowed, feed_three_puts, feed_three_short
 --                               an allowed list with 3 puts that never holds 10, so that no count below P6's 4 would do
+-- What is named here and not declared stands in proofs/FiguresLaws.antt.
 use Rattle.std.specs.Prelude.{◌≡◌, refl, List, [], ◌∷◌, ℕ, ◌+◌, ◌-◌, ◌<◌}
 use Rattle.std.proofs.Common.{arith}
 use Rattle.events.specs.Events.{Event, put, take, puts, Allowed}

@@ -3,6 +3,7 @@
 --   room                        a queue below τ has room for one production within its minimum
 --   allowed_before, settled_before
 --                               the first events of such a list are such a list
+-- What is named here and not declared stands in proofs/PeakLaws.antt.
 use Rattle.std.specs.Prelude.{◌≡◌, List, [], ◌∷◌, ◌++◌, ℕ, ◌+◌, ◌-◌, ◌*◌, ◌/◌, ◌%◌, ◌≤◌, ◌<◌}
 use Rattle.std.proofs.Common.{sym, ◌∙◌, arith}
 use Rattle.arith.specs.Division.{rest_of_sum}

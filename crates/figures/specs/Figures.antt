@@ -6,6 +6,7 @@
 --   scope_figures            P1 to P10, that example, and a run of each kind
 --   table                    the questions with their answers: these, and those of Files, ChainRefusals and RunRefusals
 --   same, all_right          the computed test
+-- What is named here and not declared stands in proofs/FiguresLaws.antt.
 use Rattle.std.specs.Prelude.{◌≡◌, refl, Bool, true, false, ◌&&◌, ℕ, zero, suc, ◌<◌, T, eqb, length, get_or, replicate}
 use Rattle.std.proofs.Common.{ap₂, arith, eqb→eq}
 use mathlib.Core.List.{List, [], ◌∷◌, ◌++◌}

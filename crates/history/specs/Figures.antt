@@ -4,6 +4,7 @@
 --   feed_first, feed_top     after its first 6 firings the queue holds 10, its minimum
 --   feed_permitted, feed_prompt
 --                            manual firing accepts each firing in turn, and the source fires only below threshold
+-- What is named here and not declared stands in proofs/FiguresLaws.antt.
 use Rattle.std.specs.Prelude.{◌≡◌, refl, List, [], ◌∷◌, ℕ}
 use Rattle.chain.specs.Record.{row_of}
 use Rattle.chain.specs.Factory.{factory_answer}

@@ -7,6 +7,7 @@
 --   Source c m s             only the source may fire, and has fired m times
 --   Driven k c m l           the flow l shows a calm state after m of k source firings
 --   Driving k l m u          of every fresh start that l shows, u shows it driven so far
+-- What is named here and not declared stands in proofs/LentLaws.antt.
 use Rattle.std.specs.Prelude.{◌≡◌, List, ℕ, ◌≤◌}
 use Rattle.chain.specs.declared.Chain.{Chain}
 use Rattle.state.specs.State.{count_at, fresh_run}

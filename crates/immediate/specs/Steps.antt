@@ -7,6 +7,7 @@
 --   SettleAsk k c s q        the nodes after queue q's consumer are calm, and its producer's count is not above the end's
 --   SettleDone c s q r       r is calm from the queue's producer on; counts up to it are as they were
 --   Settling c s q r         what holds before each firing of the consumer
+-- What is named here and not declared stands in proofs/StepsLaws.antt.
 use Rattle.std.specs.Prelude.{◌≡◌, refl, List, [], ◌∷◌, ◌++◌}
 use Rattle.std.proofs.Common.{sym, ap, subst, ◌∙◌}
 use Prim.Native.Nat.{ℕ, suc, ◌+◌, ◌≤◌, ◌<◌}

@@ -8,6 +8,7 @@ pub mod KeptLaws
 pub mod LackingLaws
 pub mod OnceLaws
 pub mod OutcomesLaws
+pub mod QuietTick
 pub mod QuietLaws
 pub mod RefusalsLaws
 pub mod RunsLaws

@@ -1,7 +1,6 @@
 -- Laws of specs/Quiet.antt that rest on a definition which an edit of must-fail/ changes.
 -- Ticks in which nothing but one node's work goes on (01, Firing): so many of them are one step.
 --   worked_done                which one tick of work leaves
---   quiet_tick                 one tick in which the source is not due and no firing is finished
 --   quiet, quiet_filled        k ticks in which the source is never due and N_i does not come to the end of its work, and what they keep
 --   quiet_run                  so a run jumps over them
 --   rests_until                the source is not due from a clock that y does not divide to the next that it does
@@ -28,23 +27,7 @@ use Rattle.instants.specs.Source.{Due}
 use Rattle.instants.proofs.SourceLaws.{source_rests}
 use Rattle.instants.specs.declared.Ticked.{Ticked}
 use Rattle.instants.specs.Quiet.{worked_in, worked_for}
-
--- N_i is the node that works, each node over threshold having a deadline; the source is not due, and the work of N_i goes on
-pub quiet_tick : {c : Chain} {s : Run} → Filled c s → Silent (lacking c s) → (i : ℕ) → chosen c s ≡ i → (Due c s → ⊥)
-    → ((j : ℕ) → i ≡ suc j → done_at s j + 1 < work_of c j) → tick c s ≡ clean (worked s i)
-quiet_tick {c} {s} f silent i works rests less =
-    tick_works c s (ap (λ (x : Ticked). x.outcome) begins)
-    ∙ ap (λ (x : Ticked). finished c (worked x.run (chosen c x.run))) begins
-    ∙ ap (λ (w : ℕ). finished c (worked s w)) works
-    ∙ works_on f i (λ j l e. less j e)
-  where
-    still : clean s ≡ sourced c s
-    still = sym ((source_rests f).1 rests)
-
-    begins : begun c s ≡ clean s
-    begins =
-        begun_silent c s (ap (λ (x : Ticked). x.outcome) (sym still)) (subst (λ (x : Ticked). Silent (lacking c x.run)) still silent)
-        ∙ ap (λ (x : Ticked). clean x.run) (sym still)
+use Rattle.instants.proofs.QuietTick.{quiet_tick}
 
 -- one tick of work, as the definition of a tick has it
 pub worked_done : (s : Run) (i : ℕ) → (worked s i).done ≡ worked_in s.done i 1

@@ -2,6 +2,7 @@
 --   left a                     what an answer says of a tick: its outcome, and the state that it leaves
 --   Ends c T o, run_ends       a run of T ticks ends with o exactly where the run up to o's instant is clean and the tick from there ends with o
 --   CleanStep c t s u, along   what each clean tick hands on from s to u at instant t holds of a clean run
+-- What is named here and not declared stands in proofs/AnswersLaws.antt.
 use Rattle.std.specs.Prelude.{◌≡◌, ◌↔◌, ℕ, ◌<◌}
 use Rattle.std.proofs.Common.{sym, ap, ◌∙◌}
 use Rattle.chain.specs.declared.Chain.{Chain}

@@ -2,6 +2,7 @@
 --   feed, feed_working e B     the factory chain 0, and with execution time e and capacity B
 --   row r                      what is left: the outcome's number, the counts of source and sink, what is held, and the outcome's values
 --   late, late_run, late_tick  a node that the source's step brings over threshold, and whose deadline can't be had
+-- What is named here and not declared stands in proofs/FiguresLaws.antt.
 use Rattle.std.specs.Prelude.{List, [], ◌∷◌, ℕ}
 use Rattle.chain.specs.Factory.{queue, made, factory_answer}
 use Rattle.chain.specs.declared.Chain.{Chain}

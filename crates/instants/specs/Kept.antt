@@ -1,9 +1,10 @@
 -- What the steps of a tick keep of a state (01, Firing and Numbers a call may refuse with).
 --   source_may                 the source may fire where there is room
---   SourceStep c s u           what it leaves where it is clean; sourced-clean: it does; source-running: a state that passes 17 where there was one
---   TickStep c s t             what a clean tick leaves; works_step, tick-step: it does; tick-running: a state that passes 17 where there was one
+--   SourceStep c s u           what it leaves where it is clean; sourced_clean: it does; source_running: a state that passes 17 where there was one
+--   TickStep c s t             what a clean tick leaves; works_step, tick_step: it does; tick_running: a state that passes 17 where there was one
 --   fired_clock, _done         a firing changes neither clock nor work done
 --   Countable c s              no count is at the limit
+-- What is named here and not declared stands in proofs/KeptLaws.antt.
 use Rattle.std.specs.Prelude.{◌≡◌, ◌≢◌, false}
 use Rattle.std.proofs.Math.Path.{refl}
 use Rattle.std.proofs.Common.{arith}

@@ -5,6 +5,7 @@
 --   work_once, work_only       what a tick of work leaves is that, and nothing else is
 --   TickOnce c s t             t is s after one clean tick
 --   work_source                a tick of work is none of the source's
+-- What is named here and not declared stands in proofs/OnceLaws.antt.
 use Rattle.std.specs.Prelude.{◌≡◌, refl, ◌≢◌, List, ℕ, zero, suc, ◌+◌, ◌≤◌, ◌<◌, get_or}
 use Rattle.std.proofs.Common.{sym, ◌∙◌, ext_get_or}
 use Rattle.std.proofs.Math.Path.{ap}

@@ -1,6 +1,7 @@
 -- Ticks in which nothing but one node's work goes on (01, Firing): so many of them are one step.
 --   worked_in e i k            the work done e after k ticks of work of N_i; of no node where i is 0
---   worked_for s i k           s after k ticks of work of N_i that finish no firing; for-none: it is s where k is 0
+--   worked_for s i k           s after k ticks of work of N_i that finish no firing; for_none: it is s where k is 0
+-- What is named here and not declared stands in proofs/QuietLaws.antt.
 use Rattle.std.specs.Prelude.{List, ℕ, zero, suc, ◌+◌, get_or, set}
 use Rattle.state.specs.declared.Run.{Run}
 

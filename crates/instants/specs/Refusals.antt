@@ -4,10 +4,11 @@
 --   LateOrSpent                9 of a tick in words
 --   said_behind, silents_row   a number that the first of two lists of checks does not have; and both lists silent
 --   tick_numbers, deadline_run_numbers
---                              the numbers of the checks of a tick and of a deadline run, in order; tick_numbered, deadline-run-numbered: each speaks with its own
+--                              the numbers of the checks of a tick and of a deadline run, in order; tick_numbered, deadline_run_numbered: each speaks with its own
 --   Ticking c s, ticking_is    the same as a record, which the code of a tick asks
 --   ran_as t, refused_as r s   the two forms of an answer
 --   outcome_refused, _fine     which the answer of a call has
+-- What is named here and not declared stands in proofs/RefusalsLaws.antt.
 use Rattle.std.proofs.Math.Logic.Iff
 use Rattle.std.specs.Prelude.{◌≡◌, ◌↔◌, ◌≢◌, ◌⊎◌, List, [], ◌∷◌, ◌++◌, ℕ, ◌≤◌, ◌<◌}
 use Rattle.std.proofs.Math.Path.{sym}

@@ -2,6 +2,7 @@
 --   Due c s                    y divides the clock
 --   Full c s, Fits c s         what the source produces does not fit queue 0, or does
 --   SourceOnce c s u           u is s after the source's step, field by field
+-- What is named here and not declared stands in proofs/SourceLaws.antt.
 use Rattle.std.specs.Prelude.{◌≡◌, ◌≢◌, ℕ, ◌+◌, ◌≤◌, ◌<◌}
 use Rattle.std.specs.Int.{◌∣◌}
 use Rattle.chain.specs.Record.{row_of}

@@ -1,6 +1,6 @@
 -- One tick and a deadline run (01, Firing).
 --   number_of o, values_of o     the number and the values that 01 gives an outcome
---   kind_of, tick_of, at_of o    the same for C; kind_number, kind-values: which says the same
+--   kind_of, tick_of, at_of o    the same for C; kind_number, kind_values: which says the same
 --   clean s, overflowed s t q, undated s t i
 --                              a state that is left clean, by a production at t that does not fit queue q, or by 13 at t of node i
 --   goes, onward r f           what f makes of a state that was left clean; any other outcome stands
@@ -23,6 +23,7 @@
 --   tick c s                   one tick
 --   ticks c T s                so many of them, as far as they are clean
 --   instants c T s             01's instants, T of them before the last
+-- What is named here and not declared stands in proofs/StepsLaws.antt.
 use Rattle.std.specs.Prelude.{◌≡◌, refl, Bool, true, cond, ◌&&◌, not, List, [], ◌∷◌, ℕ, zero, suc, ◌+◌, ◌%◌, eqb, leb, set}
 use Rattle.words.specs.Table.{tab}
 use Rattle.chain.specs.Refusals.{test, first}

@@ -14,6 +14,7 @@
 --   HowMany P T m              exactly m of the numbers below T have P
 --   how_many_one, many_next    there is one such m only, and one more exactly where one more number has P
 --   fresh_work, fresh_total    no node has worked before a run
+-- What is named here and not declared stands in proofs/TotalsLaws.antt.
 use Rattle.std.specs.Prelude.{◌≡◌, refl, ◌≢◌, ◌⊎◌, List, get_or}
 use Rattle.std.proofs.Common.{sym, ap, subst, ◌∙◌, inl, inr, ⊎_elim, le_refl, zero-lt-suc, add-one, arith}
 use Rattle.std.proofs.Math.Logic.{by_cases}

@@ -5,13 +5,14 @@
 --   entry_at l k, entries_in l  entry k, and the entries in order
 --   noted l t q p              the list with one entry more
 --   lost_in j h, lost l j      the tokens of the entries of h, and of the list, that name queue j
---   Listed l, listed_of        a list of 256 slots, of which no more are entries; listed-empty: the empty list is one
+--   Listed l, listed_of        a list of 256 slots, of which no more are entries; listed_empty: the empty list is one
 --   empty_slots                its slots are zero
---   Noted l t q p m            m is l with the entry (t, q, p) more, slot by slot; noted-only: no other list is that
+--   Noted l t q p m            m is l with the entry (t, q, p) more, slot by slot; noted_only: no other list is that
 --   Extends l m                m's first entries are l's, and from m's last entry on its slots are l's
 --   extends_refl, _trans, _noted
 --                              a list extends itself, from list to list, and by one entry
 --   extends_same               one that extends a list by no entry is that list
+-- What is named here and not declared stands in proofs/LossesLaws.antt.
 use Rattle.std.specs.Prelude.{◌≡◌, refl, ◌≢◌, cond, List, [], ◌∷◌, ℕ, zero, suc, ◌+◌, ◌≤◌, ◌<◌, eqb, length, get_or, set, replicate}
 use Rattle.std.proofs.Common.{sym, ◌∙◌, arith, ext_get_or}
 use Rattle.std.proofs.Math.Logic.{by_cases}

@@ -81,7 +81,8 @@ use Rattle.ardenquill.specs.Ticks.{kind_of, tick_of, at_of, outcome_of, tick_ans
 use Rattle.ardenquill.specs.Ticks.{tick_9, deadline_run_accepts, TickOnce, once_counts, once_keeps, Spills, Lacks, OneTick, one_overflows, one_lacks}
 use Rattle.ardenquill.specs.Ticks.{one_cleans, one_stays, one_leaves, TicksTo, answer_one, answer_exactly, Ends, HowMany, total, Waits}
 use Rattle.ardenquill.specs.Ticks.{Rising, trace, entries_of, FiredAt, source_entries, entries_when, entries_apart, entries_first, entries_rise}
-use Rattle.ardenquill.specs.Flat.{coded, is_clean, flat, clean_exactly}
+use Rattle.ardenquill.specs.Flat.{coded, is_clean, flat}
+use Rattle.ardenquill.proofs.FlatLaws.{clean_exactly}
 use Rattle.ardenquill.specs.Records.{Chain, ChainAnswer, LengthAnswer, Analysis, Run, Outcome, Clean, Ticked, TickAnswer}
 use Rattle.promises.specs.Order.{LowestOf, said}
 use Rattle.promises.specs.Replay.{p_of, τ_of, c_of, Spent, Accepts, line, rate_x, rate_y, replay_answer, Fires, AllSlots, Passes, Ample, Low, NearestFirst, Runs, accepts_is, fires_is}

@@ -18,7 +18,7 @@
 --   ReadsAs f c, read_exactly
 --                            what 1 to 5 let pass; a file is read as c exactly when it is that
 --   read_length, -count, -offsets, -ranges, -order
---                            when 1, 2, 3, 4 and 5 are answered, each where none before it is; header_known and tables-known: and then the header, and the tables, are there
+--                            when 1, 2, 3, 4 and 5 are answered, each where none before it is; header_known and tables_known: and then the header, and the tables, are there
 --   word_out, word_in, read_says, answer_refusal, answer_chain, queues_at_law, nodes_at_law
 --                            these words and the definitions of the reader, which the files above cite
 use Rattle.std.proofs.Math.Logic.Iff

@@ -14,7 +14,7 @@
 --                            "tokens produced equal tokens consumed, held, and the sum of that queue's entries", on every outcome: from the history, and from the counts
 --   losses_are, losses_count, losses_entry
 --                            the entries are exactly the lost firings: each an instant, a queue and p, in order
---   held_then c g j          what queue j holds after the firings g; moment-balance: which the balance with what g has lost says
+--   held_then c g j          what queue j holds after the firings g; moment_balance: which the balance with what g has lost says
 --   lost_exactly             a production is lost exactly when it does not fit; and each firing is of a node over threshold
 --   moment_within            so no queue passes its capacity, at any moment
 --   answered                 what it answers is what the run leaves

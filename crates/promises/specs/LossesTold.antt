@@ -8,7 +8,8 @@ use Rattle.std.proofs.Math.Logic.Iff
 use Rattle.std.specs.Prelude.{◌≡◌, refl, true, ◌↔◌, ◌≢◌, ◌⊎◌, List, [], ◌∷◌, ℕ, zero, suc, get_or}
 use Rattle.std.proofs.Common.{ap, inl, inr, ⊎_elim, arith}
 use Rattle.ardenquill.specs.Losses.{rec_tick_of, rec_at_of, rec_tick_answer, rec_run_answer}
-use Rattle.ardenquill.specs.RecFlat.{rec_kind_of, rec_coded, rec_flat, rec_moves, Moving, rec_moves_exactly}
+use Rattle.ardenquill.specs.RecFlat.{rec_kind_of, rec_coded, rec_flat, rec_moves, Moving}
+use Rattle.ardenquill.proofs.RecFlatLaws.{rec_moves_exactly}
 use Rattle.ardenquill.specs.Records.{Chain, Run, Losses, RecordOutcome, RecordClean, RecordNoDeadline, ListFull, RecordAnswer}
 use Rattle.promises.specs.LossOutcomes.{RecCleanly, RecUndatedAt, FullAt}
 use Rattle.promises.specs.LossesRefused.{rec_tick_stays, rec_run_empty}

@@ -14,7 +14,7 @@
 --   mixed_passes             the state after such a history passes 17
 --   mixed_fires, mixed_state manual firing accepts its firings in turn, and after them counts and contents are its own
 --   mixed_counted, mixed_balance, mixed_naming
---                            so demand 3 holds of it, as of every permitted order (and never_over and held-up, Demand3)
+--                            so demand 3 holds of it, as of every permitted order (and never_over and held_up, Demand3)
 --   feed_mixed               such a history of Feed
 use Rattle.std.specs.Prelude.{◌≡◌, refl, Bool, true, false, cond, List, [], ◌∷◌, ◌++◌, ℕ, zero, suc, ◌+◌, ◌*◌, ◌≤◌, ◌<◌, length, drop}
 use Rattle.std.proofs.Common.{sym, ◌∙◌, arith}

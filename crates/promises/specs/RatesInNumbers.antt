@@ -2,10 +2,10 @@
 --   c, i, j, L               a chain, a node, a queue (N_j feeds it and N_(j+1) empties it), a place
 --   x, y, g, k, b            a rate's two numbers, a divisor, a quotient, busy ticks
 --   GoodRecord c             2, 4 and 5 have no reason to refuse c (RecordInNumbers)
---   GreatestDivisor a b g    g divides a and b, and every number that does divides g; gcd_is, greatest-one: gcd a b is one, and the only one
---   RateIs c i x y           N_i fires x times in y ticks, by 003's equation 1; at_source, behind-queue: its two cases
+--   GreatestDivisor a b g    g divides a and b, and every number that does divides g; gcd_is, greatest_one: gcd a b is one, and the only one
+--   RateIs c i x y           N_i fires x times in y ticks, by 003's equation 1; at_source, behind_queue: its two cases
 --   rate_some, rate_one      every node has such a rate, and one only
---   BusyIs c cycle i b       N_1 to N_i are busy b of cycle ticks; no_node, node-more: its two cases
+--   BusyIs c cycle i b       N_1 to N_i are busy b of cycle ticks; no_node, node_more: its two cases
 --   LoadIs c cycle b         all nodes are, of the cycle y_n
 --   load_some, load_one      every chain has such a load, and one only
 --   RatePasses c i, Overloaded c

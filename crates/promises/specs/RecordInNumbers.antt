@@ -15,8 +15,8 @@
 --   range_first, _silent, order_first, fine_is
 --                            what the checks 4 and 5 say, the tables standing anywhere, and which chain is sound, in these words; the calls below and FileInBytes cite them
 --   GoodRecord c, good_is    so is a record whose tables stand as in its packed file
---   RecordChecked c N P      a call that answers number N and place P says 2, 4 and 5 exactly so; record-passes: and none of them exactly where all is fine
---   analyse-, write_record   the analysis and the writer do; write-room: and 10 of the writer. checked-as: so does every call that answers these numbers where one of them does
+--   RecordChecked c N P      a call that answers number N and place P says 2, 4 and 5 exactly so; record_passes: and none of them exactly where all is fine
+--   analyse-, write_record   the analysis and the writer do; write_room: and 10 of the writer. checked_as: so does every call that answers these numbers where one of them does
 --                            (RatesInNumbers and PlacesInNumbers: -begins, -record)
 use Rattle.std.proofs.Math.Logic.Iff
 use Rattle.std.specs.Prelude.{◌≡◌, refl, ◌↔◌, ◌≢◌, ◌⊎◌, List, [], ◌∷◌, length, get_or}

@@ -2,7 +2,7 @@
 --   c, j, i, k               a chain, a queue (N_j feeds it and N_(j+1) empties it), a node, a number of source firings
 --   p_of c j, τ_of c j, c_of c j
 --                            p, τ and c of queue j
---   Accepts c                the analysis does not refuse c: 01's accepted chain; accepts-is: which is Accepted
+--   Accepts c                the analysis does not refuse c: 01's accepted chain; accepts_is: which is Accepted
 --   line c j                 what analyse answers of queue j: minimum is b, by the naming count, x and y its consumer's rate
 --   rate_x c i, rate_y c i   N_i's rate as it is reported; the source's is 1 in a period
 --   h                        a list of nodes to fire, in order

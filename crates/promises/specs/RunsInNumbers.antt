@@ -3,7 +3,7 @@
 --   c, i, j, k, T, L         a chain, a node, a node on the way down to the source, a number or an index, ticks, a place
 --   MayRun c                 none of 2 to 8 has a reason to refuse c (PlacesInNumbers)
 --   LowestOf Reason L        L has the reason, and none before it has (Order)
---   CountIs c k i m          the immediate run of k source firings would fire N_i m times; of_source, below_threshold, from-threshold: its cases
+--   CountIs c k i m          the immediate run of k source firings would fire N_i m times; of_source, below_threshold, from_threshold: its cases
 --   count_some, count_one    every node has such a count, and one only
 --   CountPasses c k i, immediate_nine, immediate_runs
 --                            it is above 1,000,000; when the run is refused 9; and when it is not refused

@@ -1,7 +1,7 @@
 -- The busy ticks so far (01, Rates, load, minimum), kept where sums could pass 64 bits.
 --   capped y b               b, or y + 1 where b is above y
 --   capped_above, _within    it is above y exactly when b is
---   capped_same, -over       it is b where b is not above y, and y + 1 where b is; capped-below: so at most y + 1
+--   capped_same, -over       it is b where b is not above y, and y + 1 where b is; capped_below: so at most y + 1
 --   capped_step              a sum of capped numbers, capped, is the sum, capped
 --   Small busy k e           what the code of a sum asks
 use Rattle.std.specs.Prelude.{◌≡◌, ◌↔◌, ℕ, ◌+◌, ◌*◌, ◌≤◌, ◌<◌, min}

@@ -1,12 +1,12 @@
 -- Recording ticks over what is lent, with their list: what holds before each loss is taken.
 --   Joins, JoinedGives       what the code asks that goes on from where deadline ticks ended before clock U, and what it gives
 --   Carry l g h U r m c x    r is how deadline ticks before clock U ended, and x is how a recording run with the list m goes on from there
---   Carrying                 so for everything that was shown at the start; carry-start: at the start
+--   Carrying                 so for everything that was shown at the start; carry_start: at the start
 --   carry_overflows, _queue, _slot, _notes
 --                            what the loss asks, its queue and its slot in the list, and what holds once it is noted
 --   carry_halts, _onward     what the ticks after it ask, and what they leave
 --   carry_full, _lacks, _ends
---                            the three ways in which they end; carry_low, carry-last: the node of the last two is a number of the chain
+--                            the three ways in which they end; carry_low, carry_last: the node of the last two is a number of the chain
 --   Carries l f e m t T      a state that is lent for T ticks, and a list of 256 slots
 --   carries_joins, _gives, _unlost
 --                            its first ticks: what goes on from them, what all of them leave, and where nothing is lost

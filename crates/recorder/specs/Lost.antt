@@ -1,5 +1,5 @@
 -- The code that takes a loss and goes on: one law to each need and each way in which it ends.
---   overflow_at t q          an overflow as code has it; halted-overflows: what is shown then overflows at t and queue q
+--   overflow_at t q          an overflow as code has it; halted_overflows: what is shown then overflows at t and queue q
 --   lost_loses, _finish      at a finish: what the loss asks, and what it leaves
 --   source_stand, _looks, _loses, _early, _lacks
 --                            at the source: what the deadlines, 13 and the loss ask, that the clock can grow, and 13

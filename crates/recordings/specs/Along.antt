@@ -7,6 +7,7 @@
 --                              what each clean tick hands on from x to y at instant t holds of a clean run
 --   rec_follows, rec_carry_on r f, rec_ticks_from c T s l
 --                              T ticks from s and l, as their calls answer: the first refusal, or the first outcome that is not clean, ends it
+-- What is named here and not declared stands in proofs/AlongLaws.antt.
 use Rattle.std.specs.Prelude.{◌≡◌, refl, ◌↔◌, ℕ, zero, suc, ◌-◌, ◌<◌}
 use Rattle.std.proofs.Common.{sym, ap, ◌∙◌}
 use Rattle.chain.specs.declared.Chain.{Chain}

@@ -3,6 +3,7 @@
 --   spilled, tick_spilled      where the source's production does not fit, the deadline tick ends with that
 --   TakenBack, NextLoss        13 has taken back what the source's step lost; the next entry is that of a loss at t and queue q
 --   TakenBackThen c T s l      the deadline run overflows where 13 has taken back the loss
+-- What is named here and not declared stands in proofs/BesideLaws.antt.
 use Rattle.std.specs.Prelude.{◌≡◌, Bool, eqb}
 use Rattle.std.proofs.Math.Path.{refl, ap}
 use Rattle.std.proofs.Common.{sym, ◌∙◌, arith}

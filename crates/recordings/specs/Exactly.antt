@@ -21,6 +21,7 @@
 --   RecTicksTo c T s l x       T ticks of s and l, as far as they are clean, end with x
 --   rec_ticks_to_only, rec_ticks_exactly
 --                              there is at most one such x, and so many ticks end with it
+-- What is named here and not declared stands in proofs/ExactlyLaws.antt.
 use Rattle.std.specs.Prelude.{◌≡◌, ◌⊎◌}
 use Rattle.std.proofs.Math.Path.{subst}
 use Rattle.std.proofs.Common.{sym, ap, ◌∙◌, ⊎_elim, arith}

@@ -10,6 +10,7 @@
 --                              as a deadline tick it overflows, and as a recording tick 13 ends it, taking back the source's loss
 --   shallow_accepted, two_accepted
 --                              chains that lose are accepted
+-- What is named here and not declared stands in proofs/FiguresLaws.antt.
 use Rattle.std.specs.Prelude.{◌≡◌, refl, List, [], ◌∷◌, ℕ, replicate}
 use Rattle.chain.specs.Factory.{queue, made}
 use Rattle.chain.specs.declared.Chain.{Chain}

@@ -1,6 +1,7 @@
 -- What a recording tick and so many of them keep (02, Item 2).
 --   rec_tracing_clean, _none   the firings of what is clean, and of what is not
 --   Led c s l h x              the firings h lead from s and l to what x has, in which a step may be made unless the list was found full
+-- What is named here and not declared stands in proofs/KeptLaws.antt.
 use Rattle.std.specs.Prelude.{◌≡◌}
 use Rattle.std.proofs.Math.Path.{refl, ap}
 use mathlib.Core.List.{List, []}

@@ -7,6 +7,7 @@
 --   left_with, left_clean, _undated, _source
 --                              what is left, by its outcome; a clean state, 13 and the source's overflow are such
 --   finished_at, _dated        which never overflows at the source, and never ends with 13
+-- What is named here and not declared stands in proofs/LeftLaws.antt.
 use Rattle.std.specs.Prelude.{◌≡◌}
 use Rattle.std.proofs.Math.Path.{ap}
 use Rattle.std.proofs.Common.{sym, arith}

@@ -7,6 +7,7 @@
 --   losses_of c h              what the lost ones lose, in order: the instant, the queue and p
 --   rec_after_none, _lost, _fits, losses_none, _lost, _fits
 --                              what the first firing does and loses
+-- What is named here and not declared stands in proofs/MarkedLaws.antt.
 use Rattle.std.specs.Prelude.{◌≡◌, Bool, cond, ℕ, ◌≤◌}
 use Rattle.std.proofs.Math.Path.{refl}
 use Rattle.std.proofs.Math.Bool.{true, false}

@@ -8,6 +8,7 @@
 --   WorkFull c u j t           t is u after the last tick of work of N_(j+1), with nothing of its firing done
 --   work_noted_only, work_full_only
 --                              and nothing else is
+-- What is named here and not declared stands in proofs/OnceLaws.antt.
 use Rattle.std.specs.Prelude.{◌≡◌, refl, ◌≢◌, ℕ, zero, suc, ◌+◌}
 use Rattle.std.proofs.Common.{sym, ◌∙◌, ⊎_elim, arith, ext_get_or}
 use Rattle.std.proofs.Math.Path.{subst}

@@ -4,6 +4,7 @@
 --   rec_fresh_paced, rec_tick_paced
 --                              a fresh start with an empty list is one, and a clean tick leaves one
 --   rec_paced_ticking          before the longest run is over no check refuses a tick of one
+-- What is named here and not declared stands in proofs/PacedLaws.antt.
 use Rattle.std.specs.Prelude.{ℕ, suc, ◌≤◌, ◌<◌}
 use Rattle.std.proofs.Common.{arith}
 use Rattle.std.proofs.Math.Logic.{by_cases}

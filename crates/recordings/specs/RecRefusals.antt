@@ -5,6 +5,7 @@
 --                              the same as a record, which the code of a recording tick asks
 --   rec_ran_as x, rec_refused_as r s l
 --                              the two forms of an answer
+-- What is named here and not declared stands in proofs/RecRefusalsLaws.antt.
 use Rattle.std.specs.Prelude.{◌≡◌, ◌≢◌, List, [], ◌∷◌, ◌++◌, ℕ, ◌≤◌, ◌<◌}
 use Rattle.std.proofs.Common.{arith}
 use Rattle.chain.specs.Refusals.{refused, Others, number_of, said_earlier}

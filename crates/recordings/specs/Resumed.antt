@@ -1,5 +1,6 @@
 -- A recording run as deadline runs that are joined by losses (02, Item 2): how it goes on from each outcome of the deadline run.
 --   rec_from c U l y           how a recording run up to clock U goes on from y, what steps of the deadline run have left, with the list l
+-- What is named here and not declared stands in proofs/ResumedLaws.antt.
 use Prim.Native.Nat.{ℕ, zero, suc, ◌-◌, ◌<◌}
 use Rattle.chain.specs.Record.{row_of}
 use Rattle.chain.specs.declared.Chain.{Chain}

@@ -1,6 +1,6 @@
 -- One recording tick and a recording run (02, Item 2); "rec" before a name says: the same of a recording run.
 --   rec_number_of o, rec_values_of o
---                              the number and the values that 01's way gives an outcome; rec_tick_of, rec_at_of o, rec-values: the values one by one; rec_numbers, rec-all-values: which they are
+--                              the number and the values that 01's way gives an outcome; rec_tick_of, rec_at_of o, rec_values: the values one by one; rec_numbers, rec_all_values: which they are
 --   rec_clean s l, rec_undated s l t i, rec_full s l t q
 --                              a state and a list that are left clean, by 13 at t of node i, or by the full list at t and queue q
 --   rec-clean-, rec-undated-, rec_full_left
@@ -16,6 +16,7 @@
 --   rec_tick c s l             one tick
 --   rec_ticks c T s l          so many of them, as far as they are clean
 --   rec_instants c T s l       01's instants, T of them before the last
+-- What is named here and not declared stands in proofs/StepsLaws.antt.
 use Rattle.std.specs.Prelude.{◌≡◌, refl, cond, List, [], ◌∷◌, ℕ, zero, suc, eqb, ltb}
 use Rattle.chain.specs.Record.{row_of}
 use Rattle.chain.specs.declared.Chain.{Chain}

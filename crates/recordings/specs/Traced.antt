@@ -1,5 +1,6 @@
 -- A recording run from a fresh start with an empty list, by the history of its firings (02, Item 2).
---   rec_run c T, rec_firings c T what it leaves after T ticks, and its firings; rec-run-means: which these are
+--   rec_run c T, rec_firings c T what it leaves after T ticks, and its firings; rec_run_means: which these are
+-- What is named here and not declared stands in proofs/TracedLaws.antt.
 use Rattle.std.specs.Prelude.{◌≡◌, refl, List, ℕ}
 use Rattle.chain.specs.declared.Chain.{Chain}
 use Rattle.state.specs.State.{fresh_run}

@@ -10,6 +10,7 @@
 --   rec_alike_onward, rec_kept_onward
 --                            one thing after the other
 --   rec_kept_then            what is kept from a state and a list that were kept themselves
+-- What is named here and not declared stands in proofs/ListsLaws.antt.
 use Rattle.std.specs.Prelude.{◌≡◌, Bool, true, false, cond, ℕ, ◌<◌, length}
 use Rattle.state.specs.declared.Run.{Run}
 use Rattle.losses.specs.Losses.{entry_at, Extends, extends_refl, extends_trans}

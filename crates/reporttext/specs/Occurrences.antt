@@ -1,5 +1,5 @@
 -- How often a byte stands in a text.
---   occurrences b t     how many bytes of t are b; occurrences-append: of two texts in a row
+--   occurrences b t     how many bytes of t are b; occurrences_append: of two texts in a row
 --   Without b t         none is
 --   without_append      nor of two such texts in a row
 --   without_decimal, _integer

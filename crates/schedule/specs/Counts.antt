@@ -3,6 +3,7 @@
 --   fed c i N                how often N_(i+1) has fired where N_i has fired N times and queue i is below threshold: one step of F
 --   F c k i                  how often N_i has fired after k firings of the source
 --   turns_of c i             y_i/y: how many firings of the source N_i's cycle has; turns_source, turns_next: node by node
+-- What is named here and not declared stands in proofs/CountsLaws.antt.
 use Rattle.std.specs.Prelude.{◌≡◌}
 use Rattle.std.proofs.Common.{mul-zero, arith}
 use Rattle.std.proofs.Math.Path.{ap}

@@ -1,14 +1,15 @@
 -- The order of the immediate run (01, Firing), as a history that is computed.
 --   joined f r N             f at N, N + 1, .. N + r - 1, joined
 --   burst c m i N            what the firing of N_i that takes its count from N to N + 1 sets off, m queues being left towards the sink
---   schedule c k             the immediate run of k source firings, from a fresh start; schedule_none, schedule-more: one firing after the other
+--   schedule c k             the immediate run of k source firings, from a fresh start; schedule_none, schedule_more: one firing after the other
 --   Next c s i               01's rule: N_i is the node nearest the sink that may fire
 --   next_one, HasNext, next_some
 --                            there is exactly one such node in every state
 --   Follows c s h            each firing of h, from s on, is by the rule
 --   Ran c s i M h            what firings h by the rule leave of N_i and the nodes after it
 --   Bursts c i f, burst_runs each burst of N_i takes its count from N to N + 1 and settles the queues after it
---   Tight c s                no queue holds more than its minimum; fresh_tight, tight-fired: by the rule none ever does
+--   Tight c s                no queue holds more than its minimum; fresh_tight, tight_fired: by the rule none ever does
+-- What is named here and not declared stands in proofs/ScheduleLaws.antt.
 use Rattle.std.specs.Prelude.{◌≡◌, List, [], ◌∷◌, ◌++◌}
 use Rattle.std.proofs.Common.{sym, ◌∙◌, append-nil, append_assoc, add-zero}
 use Rattle.std.proofs.Math.Path.{ap}

@@ -2,6 +2,7 @@
 --   Accepted c               sound, no rate above the limit, not overloaded: 01's accepted chain
 --   SizeFits q, size_fits    the numbers of a queue's line: x and y up to the limit, minimum up to 131,069, naming count up to
 --                            65,535, capacity up to 1,000,000, and the margin between minus and plus a million
+-- What is named here and not declared stands in proofs/AcceptedLaws.antt.
 use Rattle.std.specs.Prelude.{◌≡◌, refl, Bool, true, false, cond, ℕ, suc, ◌-◌, ◌≤◌, ◌<◌, ltb, pos, negsuc, nat_abs}
 use Rattle.std.proofs.Common.{arith, ltb-true}
 use Rattle.chain.specs.Sound.{Sound}

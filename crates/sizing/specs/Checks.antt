@@ -10,9 +10,10 @@
 --                              the checks of the analysis, and of every run and deadline question, in order
 --   analyse_refusal c, run_refusal c, analyse_answer c, run_answer c
 --                              what a chain is refused with, and the whole answer
---   short_test a i, short_in a  8 as an analysis shows it; short-is-capacity: which is 8 of the chain
+--   short_test a i, short_in a  8 as an analysis shows it; short_is_capacity: which is 8 of the chain
 --   InLimit, FirstTooLarge, Short, Enough, FirstShort
 --                              01's conditions of 6 and 8, in words
+-- What is named here and not declared stands in proofs/ChecksLaws.antt.
 use Rattle.std.specs.Prelude.{◌≡◌, refl, Bool, not, ◌||◌, ◌&&◌, ◌≢◌, ◌⊎◌, List, [], ◌∷◌, ◌++◌, eqb, get_or}
 use Rattle.std.proofs.Common.{le-ltb}
 use Rattle.std.proofs.Math.Bool.{true, false, cond}

@@ -4,7 +4,7 @@
 --   source_rate              the source fires once in a period
 --   x_pos, y_pos, grows      neither is 0, nor is the stretch
 --   y_stretch                y_(i+1) is a multiple of y_i, namely this many times
---   y_multiple               each y is a multiple of every y before it; y-source: and so of the period
+--   y_multiple               each y is a multiple of every y before it; y_source: and so of the period
 --   tokens_balance           what N_(i+1) takes out per tick is what N_i puts in
 --   cycle_least              in no smaller multiple of y_i is that a whole number of firings
 use Rattle.std.specs.Prelude.{◌≡◌, refl}

@@ -12,6 +12,7 @@
 --   refused_with N L         the answer that is all zero but for number and place, as each refused one is (sized_refused)
 --   minimum-, naming-, capacity_most
 --                            how large the numbers of a sound queue's line can be
+-- What is named here and not declared stands in proofs/SizesLaws.antt.
 use Rattle.std.specs.Prelude.{◌≡◌, refl, cond, ℕ, suc, ◌/◌, ◌≤◌, eqb, replicate, ℤ, pos}
 use Rattle.std.proofs.Common.{le_trans, arith}
 use Rattle.words.specs.Table.{tab, slots}

@@ -2,7 +2,6 @@
 -- The slots of a chain past n are not read: chains that differ only there have the same answers (01, Firing: "the slots past n are neither
 -- read nor changed").
 --   alike_refl               a chain and itself
---   trimmed_alike            a chain and the one with its slots past n zero
 --   record_alike, chain_alike
 --                            such chains are tested and refused alike as records
 --   rates_alike, cycle_alike, busy_alike
@@ -34,20 +33,11 @@ use Rattle.sizing.specs.Load.{busy_in, cycle_of, busy_of}
 use Rattle.sizing.specs.Sizes.{minimum_of, size_by, size_of, no_size, empty_analysis, analysis_of, sized}
 use Rattle.sizing.specs.Checks.{too_large, rate_test, rate_check, load_check, capacity_test, capacity_check, analyse_checks, analyse_refusal, run_refusal, analyse_answer, run_answer}
 use Rattle.slots.specs.Chains.{AlikeChains, tabs_alike, flat_alike}
+use Rattle.slots.proofs.Trimmed.{trimmed_alike}
 
 -- a chain and itself
 pub alike_refl : (c : Chain) → AlikeChains c c
 alike_refl c = record { n = refl; period = refl; rows = λ i l. refl; work = λ i l. refl }
-
--- a chain and the one with its slots past n zero
-pub trimmed_alike : (c : Chain) → c.n ≤ 16 → AlikeChains c (trimmed c)
-unfolding trimmed
-trimmed_alike c few = record {
-  n = refl;
-  period = refl;
-  rows = λ i l. sym (slot_used (row_of c) none 16 c.n i none (omega arith) l);
-  work = λ i l. sym (slot_used (work_of c) 0 16 c.n i 0 (omega arith) l);
-}
 
 module _ {c d : Chain} (a : AlikeChains c d) where
   -- every field, in 01's order

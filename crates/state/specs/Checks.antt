@@ -26,6 +26,7 @@
 --                              with the tokens that each queue lost, no more than a list can name
 --   lent_run, state_lent, state_lent_with
 --                              the state whose numbers are lent, which 17 is said of
+-- What is named here and not declared stands in proofs/ChecksLaws.antt.
 use Rattle.std.specs.Prelude.{◌≡◌, Bool, true, not, ◌||◌, ◌&&◌, ◌≢◌, ◌⊎◌, List, ℕ, zero, suc, ◌+◌, ◌*◌, ◌≤◌, ◌<◌, ltb, leb, eqb, get_or}
 use Rattle.std.proofs.Common.{zero-add}
 use Rattle.words.specs.Table.{tab}

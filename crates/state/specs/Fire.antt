@@ -5,6 +5,7 @@
 --   fire_refusal c s i, fire_answer c s i
 --                              what a firing is refused with, and the whole answer: the state as it was, or after the firing
 --   Firing c s i, firing_is    the same as a record, which the code of a manual firing asks
+-- What is named here and not declared stands in proofs/FireLaws.antt.
 use Rattle.std.specs.Prelude.{◌≡◌, List, [], ◌∷◌, ◌++◌, ℕ}
 use Rattle.std.proofs.Math.Path.{refl}
 use Rattle.std.proofs.Common.{eq-eqb, ne_eqb}

@@ -11,6 +11,7 @@
 --   Balance c s j            which are the same
 --   BalanceWith c s j x      or x tokens more were lost
 --   Slots n s, slots_kept    the state has a slot for each node and queue, and a firing keeps them
+-- What is named here and not declared stands in proofs/FiredLaws.antt.
 use Rattle.std.specs.Prelude.{◌≡◌, Bool, cond, ◌≢◌, List, ℕ, zero, suc, ◌+◌, ◌-◌, ◌*◌, ◌≤◌, ◌<◌, ltb, set}
 use Rattle.std.proofs.Math.Path.{refl}
 use Rattle.std.proofs.Common.{ap, arith}

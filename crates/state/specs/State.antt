@@ -3,7 +3,7 @@
 --   held_at s i               what queue i holds
 --   done_at s i              the ticks that N_(i+1) has worked on the firing that it has begun
 --   empty_run                the state of a refused call: all zero
---   fresh_run c              a fresh start; fresh-empty: which is the same, since every queue starts empty
+--   fresh_run c              a fresh start; fresh_empty: which is the same, since every queue starts empty
 --   zeros                    every slot of a list of zeros, and past its end, is 0
 --   fresh_count, fresh_held  then no node has fired, and each queue holds what it starts with
 --   answered r s t           the answer of a call: the refusal r with the state s, or the state t where r is silent

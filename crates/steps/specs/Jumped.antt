@@ -4,13 +4,13 @@
 --   UnfinishedGives l e T i r
 --                            r is the most of T ticks in which N_i works and does not finish its firing
 --   unfinished_none, _left, _all
---                            no node works, the work that is left is less than T, and it is not; unfinished-below: its numbers fit
+--                            no node works, the work that is left is less than T, and it is not; unfinished_below: its numbers fit
 --   Quiets l e t U i         the ticks from t up to U are looked at
 --   QuietGives l e t U i r   r is the most of them in which the source does not fire and N_i does not finish its firing
 --   quiet_due, -none, _source, -all
 --                            the source fires at t, no tick is left, the source fires first, and it does not
 --   JumpedGives l e t U i h r
---                            h has the work of so many ticks more, and r is the clock after them; jump-works: what that work asks
+--                            h has the work of so many ticks more, and r is the clock after them; jump_works: what that work asks
 use Rattle.std.specs.Prelude.{◌≡◌, refl, ◌≢◌, ◌⊎◌, List, ℕ, suc, ◌+◌, ◌-◌, ◌*◌, ◌/◌, ◌%◌, ◌≤◌, ◌<◌, get_or}
 use Rattle.std.proofs.Common.{ap, subst, ◌∙◌, inl, inr, ⊎_elim, add-zero, mod-lt, arith}
 use Rattle.std.specs.Int.{◌∣◌}

@@ -7,6 +7,7 @@
 --   AlikeStates n s t        two states of as many slots that differ in slots past n only
 --   KeptSlots n s t          t has as many slots as s, and s's slots past n
 --   AlikeTicked n x y        outcomes that are the same, with states that differ in slots past n only
+-- What is named here and not declared stands in proofs/SlotsLaws.antt.
 use Rattle.std.specs.Prelude.{◌≡◌, refl, List, [], ◌∷◌, ℕ, zero, suc, ◌≤◌, ◌<◌, length, get_or, set}
 use Rattle.std.proofs.Common.{sym, ◌∙◌, arith, length-set, get_or-set_other}
 use Rattle.std.proofs.Math.Logic.{by_cases}

@@ -4,6 +4,7 @@
 --   instants_times             N_i has as many of them as it stands in h
 --   entries_of c T i           those of a run of T ticks from a fresh start
 --   FiredAt c T j k t          t is the instant, T or earlier, at which N_(j+1)'s count goes from k to k+1, with no work done of its next firing
+-- What is named here and not declared stands in proofs/EntriesLaws.antt.
 use Rattle.std.specs.Prelude.{◌≡◌, ◌≢◌, ◌⊎◌, Bool, true, false, cond, eqb, length, get_or}
 use Rattle.std.proofs.Math.Path.{refl, ap, subst}
 use Rattle.std.proofs.Common.{◌∙◌, inr, arith, eq-eqb, ne_eqb}

@@ -1,6 +1,7 @@
 -- Figures of traces, each computed (01, P7 and P8, and Firing).
 --   short, short_12          Permeate with B 12 and 5 (P4), whose second queue overflows at a finish
 --   far, far_state, far_tick  a chain and a state in which 13 takes back the source's step
+-- What is named here and not declared stands in proofs/FiguresLaws.antt.
 use Rattle.std.specs.Prelude.{[], ◌∷◌}
 use Rattle.chain.specs.Factory.{queue, made}
 use Rattle.chain.specs.declared.Chain.{Chain}

@@ -2,6 +2,7 @@
 --   Rising a h b               the instants of h never fall, the first being a or later and the last b or earlier
 --   rising_later, rising_append
 --                              a trace from an earlier instant on, and one trace and then another
+-- What is named here and not declared stands in proofs/RisingLaws.antt.
 use Rattle.std.proofs.Common.{le_trans}
 use mathlib.Core.List.{List, [], ◌∷◌, ◌++◌}
 use Prim.Native.Nat.{ℕ, ◌≤◌}

@@ -8,7 +8,8 @@ use Rattle.recordings.specs.Answers.{rec_tick_answer}
 use Rattle.recordings.specs.declared.RecordAnswer.{RecordAnswer}
 use Rattle.recordslots.proofs.AnswersLaws.{rec_past_kept}
 use Rattle.ardenquill.specs.declared.OutcomeAnswer.{OutcomeAnswer}
-use Rattle.ardenquill.specs.RecFlat.{rec_coded, rec_moves, rec_grows, rec_unmoved_stays, rec_ungrown_stays}
+use Rattle.ardenquill.specs.RecFlat.{rec_coded, rec_moves, rec_grows}
+use Rattle.ardenquill.proofs.RecFlatLaws.{rec_unmoved_stays, rec_ungrown_stays}
 use Rattle.ardenquill.proofs.ardenquill_recording_tick.Goals as goal
 use Rattle.ardenquill.proofs.ardenquill_recording_tick.Goals.{then-rec_moves, else-rec_moves, After-rec_grows}
 

@@ -7,7 +7,8 @@ use Rattle.instants.specs.declared.TickAnswer.{TickAnswer}
 use Rattle.tickslots.proofs.AnswersLaws.{past_kept}
 use Rattle.ardenquill.specs.declared.OutcomeAnswer.{OutcomeAnswer}
 use Rattle.ardenquill.specs.Ticks.{tick_answer}
-use Rattle.ardenquill.specs.Flat.{coded, is_clean, unclean_stays}
+use Rattle.ardenquill.specs.Flat.{coded, is_clean}
+use Rattle.ardenquill.proofs.FlatLaws.{unclean_stays}
 use Rattle.ardenquill.proofs.ardenquill_tick.Goals as goal
 
 -- a state has all its slots where the state that its tick answers has them

@@ -1,8 +1,8 @@
 -- With room for the longest report the library's calls leave what is to be printed of the bytes read, and these are enough of the
 -- input.
 use Rattle.std.proofs.Common.{◌^◌, ◌<◌, rules}
-use Rattle.chainreport.specs.Printed.{prints_refusal, prints_report}
-use Rattle.chainreport.specs.Input.{answers_exactly}
+use Rattle.chainreport.proofs.PrintedLaws.{prints_refusal, prints_report}
+use Rattle.chainreport.proofs.InputLaws.{answers_exactly}
 use Rattle.chainreport.proofs.answer.Goals as goal
 
 pub returns-then-report-ne0-clause-answers : goal.returns-then-report-ne0-clause-answers

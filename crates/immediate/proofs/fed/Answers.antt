@@ -1,7 +1,8 @@
 -- `immediate::fed` meets its contract: what is put in stays below 2 ^ 36, and the count follows F's two cases.
 use Rattle.std.proofs.Common.{sym, ap, ◌∙◌, ℕ, ◌-◌, ◌*◌, zero-add, mul-le-mul, div-le_self, arith}
 use Rattle.events.specs.Counts.{fires}
-use Rattle.events.proofs.CountsLaws.{fires_below, fires_from}
+use Rattle.events.proofs.CountsLaws.{fires_below}
+use Rattle.events.proofs.FiresFrom.{fires_from}
 use Rattle.immediate.proofs.fed.Goals as goal
 
 pub overflow_mul-put : goal.overflow_mul-put

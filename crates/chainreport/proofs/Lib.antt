@@ -1,0 +1,3 @@
+pub mod InputLaws
+pub mod PrintedLaws
+pub mod PrintedInColumnsLaws
