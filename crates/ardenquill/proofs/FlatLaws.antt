@@ -2,7 +2,7 @@
 -- What C is answered in place of an outcome of several kinds.
 --   clean_exactly            which it is exactly where its number is 0 and its outcome Clean
 --   unclean_stays            a tick with any other answer leaves the state as it was
-use Rattle.std.specs.Prelude.{◌≡◌, refl, Bool, true, not, ◌&&◌, ◌↔◌, T, eqb}
+use Rattle.std.specs.Prelude.{◌≡◌, refl, Bool, true, not, ◌↔◌, T, eqb}
 use Rattle.std.proofs.Common.{sym, ap, subst, true≢false, arith}
 use Rattle.std.proofs.Math.Logic.{by_cases}
 use Rattle.std.proofs.Math.Decide.{ℕ_discrete}
@@ -10,7 +10,7 @@ use Rattle.chain.specs.Tests.{equal_true, and_true}
 use Rattle.chain.specs.declared.Chain.{Chain}
 use Rattle.state.specs.declared.Run.{Run}
 use Rattle.slots.specs.Runs.{Whole}
-use Rattle.instants.specs.Steps.{kind_of, tick_of, at_of}
+use Rattle.instants.specs.Steps.{kind_of}
 use Rattle.instants.specs.Checks.{outcome_of, tick_answer}
 use Rattle.instants.proofs.RefusalsLaws.{tick_refused}
 use Rattle.instants.proofs.ExactlyLaws.{one_stays}
@@ -18,8 +18,6 @@ use Rattle.instants.proofs.AnswersLaws.{answer_one}
 use Rattle.instants.specs.declared.Outcome.{Outcome}
 use Rattle.instants.specs.declared.Outcome.TheVariants.{Clean, Overflowed, NoDeadline}
 use Rattle.instants.specs.declared.TickAnswer.{TickAnswer}
-use Rattle.ardenquill.specs.declared.OutcomeAnswer.{OutcomeAnswer}
-use Rattle.ardenquill.specs.declared.OutcomeRun.{OutcomeRun}
 use Rattle.ardenquill.specs.Flat.{coded, is_clean}
 
 -- which an answer is exactly where it was not refused and its outcome is this

@@ -3,7 +3,7 @@
 --   rec_moves_exactly        rec_moves says so exactly where the number is 0 and the outcome is such a one
 --   rec_unmoved_stays        a tick with any other answer leaves the state and the list as they were
 --   rec_ungrown_stays        and one that leaves the list as long as it was leaves it as it was
-use Rattle.std.specs.Prelude.{◌≡◌, refl, Bool, true, not, cond, ◌&&◌, ◌||◌, ◌↔◌, ◌≢◌, ℕ, T, eqb, length}
+use Rattle.std.specs.Prelude.{◌≡◌, refl, Bool, true, not, cond, ◌&&◌, ◌||◌, ◌↔◌, T, eqb, length}
 use Rattle.std.proofs.Common.{sym, ap, subst, ◌∙◌, true≢false, ⊎_elim, arith, ne_eqb}
 use Rattle.std.proofs.Math.Logic.{by_cases}
 use Rattle.std.proofs.Math.Decide.{ℕ_discrete}
@@ -14,7 +14,7 @@ use Rattle.state.specs.declared.Run.{Run}
 use Rattle.slots.specs.Runs.{Whole}
 use Rattle.losses.specs.Losses.{extends_same}
 use Rattle.losses.specs.declared.Losses.{Losses}
-use Rattle.recordings.specs.Steps.{rec_number_of, rec_tick_of, rec_at_of, rec_tick}
+use Rattle.recordings.specs.Steps.{rec_number_of, rec_at_of, rec_tick}
 use Rattle.recordings.proofs.KeptLaws.{tick_leads}
 use Rattle.recordings.specs.Checks.{Recording, recording_filled}
 use Rattle.recordings.proofs.ExactlyLaws.{rec_is_one, rec_one_lacks_stays, rec_one_full_stays}
@@ -23,8 +23,6 @@ use Rattle.recordings.proofs.RecRefusalsLaws.{rec_tick_accepts, rec_tick_ran, re
 use Rattle.recordings.specs.declared.RecordOutcome.{RecordOutcome}
 use Rattle.recordings.specs.declared.RecordOutcome.TheVariants.{Clean, NoDeadline, ListFull}
 use Rattle.recordings.specs.declared.RecordAnswer.{RecordAnswer}
-use Rattle.ardenquill.specs.declared.OutcomeAnswer.{OutcomeAnswer}
-use Rattle.ardenquill.specs.declared.OutcomeRecording.{OutcomeRecording}
 use Rattle.ardenquill.specs.RecFlat.{rec_kind_of, rec_coded, rec_moves, Moving, rec_grows}
 
 pub rec_kind_number : (o : RecordOutcome) → rec_number_of o ≡ cond (eqb (rec_kind_of o) 2) 13 (cond (eqb (rec_kind_of o) 3) 15 0)

@@ -2,21 +2,8 @@
 --   coded a                  the answer a with its outcome as a code, a tick, and a queue or node; without its state
 --   flat a                   the same, and its state
 --   is_clean a               whether a, as C has it, is the answer of a tick that was taken and ended clean
-use Rattle.std.specs.Prelude.{◌≡◌, refl, Bool, true, not, ◌&&◌, ◌↔◌, T, eqb}
-use Rattle.std.proofs.Common.{sym, ap, subst, true≢false, arith}
-use Rattle.std.proofs.Math.Logic.{by_cases}
-use Rattle.std.proofs.Math.Decide.{ℕ_discrete}
-use Rattle.chain.specs.Tests.{equal_true, and_true}
-use Rattle.chain.specs.declared.Chain.{Chain}
-use Rattle.state.specs.declared.Run.{Run}
-use Rattle.slots.specs.Runs.{Whole}
+use Rattle.std.specs.Prelude.{Bool, ◌&&◌, eqb}
 use Rattle.instants.specs.Steps.{kind_of, tick_of, at_of}
-use Rattle.instants.specs.Checks.{outcome_of, tick_answer}
-use Rattle.instants.proofs.RefusalsLaws.{tick_refused}
-use Rattle.instants.proofs.ExactlyLaws.{one_stays}
-use Rattle.instants.proofs.AnswersLaws.{answer_one}
-use Rattle.instants.specs.declared.Outcome.{Outcome}
-use Rattle.instants.specs.declared.Outcome.TheVariants.{Clean, Overflowed, NoDeadline}
 use Rattle.instants.specs.declared.TickAnswer.{TickAnswer}
 use Rattle.ardenquill.specs.declared.OutcomeAnswer.{OutcomeAnswer}
 use Rattle.ardenquill.specs.declared.OutcomeRun.{OutcomeRun}

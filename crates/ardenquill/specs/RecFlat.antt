@@ -7,23 +7,12 @@
 --   rec_grows b k            whether a list of b entries has another number k of them after a tick
 --   RecLeaves c s l t m a    t, m and a are the state, the list and the answer, as C has it, of a recording tick of s and l
 -- What is named here and not declared stands in proofs/RecFlatLaws.antt.
-use Rattle.std.specs.Prelude.{◌≡◌, refl, Bool, true, not, cond, ◌&&◌, ◌||◌, ◌↔◌, ◌≢◌, ℕ, T, eqb, length}
-use Rattle.std.proofs.Common.{sym, ap, subst, ◌∙◌, true≢false, ⊎_elim, arith, ne_eqb}
-use Rattle.std.proofs.Math.Logic.{by_cases}
-use Rattle.std.proofs.Math.Decide.{ℕ_discrete}
-use Rattle.chain.specs.Tests.{equal_true, and_true}
-use Rattle.chain.specs.Refusals.{Silent}
+use Rattle.std.specs.Prelude.{◌≡◌, Bool, not, ◌&&◌, ◌||◌, ◌≢◌, ℕ, eqb}
 use Rattle.chain.specs.declared.Chain.{Chain}
 use Rattle.state.specs.declared.Run.{Run}
-use Rattle.slots.specs.Runs.{Whole}
-use Rattle.losses.specs.Losses.{extends_same}
 use Rattle.losses.specs.declared.Losses.{Losses}
-use Rattle.recordings.specs.Steps.{rec_number_of, rec_tick_of, rec_at_of, rec_tick}
-use Rattle.recordings.proofs.KeptLaws.{tick_leads}
-use Rattle.recordings.specs.Checks.{Recording, recording_filled}
-use Rattle.recordings.proofs.ExactlyLaws.{rec_is_one, rec_one_lacks_stays, rec_one_full_stays}
-use Rattle.recordings.specs.Answers.{rec_tick_refusal, rec_tick_answer}
-use Rattle.recordings.proofs.RecRefusalsLaws.{rec_tick_accepts, rec_tick_ran, rec_tick_refused}
+use Rattle.recordings.specs.Steps.{rec_tick_of, rec_at_of}
+use Rattle.recordings.specs.Answers.{rec_tick_answer}
 use Rattle.recordings.specs.declared.RecordOutcome.{RecordOutcome}
 use Rattle.recordings.specs.declared.RecordOutcome.TheVariants.{Clean, NoDeadline, ListFull}
 use Rattle.recordings.specs.declared.RecordAnswer.{RecordAnswer}

@@ -5,11 +5,10 @@
 --   front_enough     so a front above that length tells what is to be printed of the whole input
 --   answers_exactly  and what is printed of the bytes held is what is to be printed of the input, however much of it was left unread
 --   answers_inputs   so a text answers exactly when it is what is to be printed of every input that was read into b so
-use Rattle.std.specs.Prelude.{◌≡◌, refl, ◌↔◌, ◌≢◌, List, ◌∷◌, ◌++◌, ℕ, ◌+◌, ◌*◌, ◌≤◌, ◌<◌, min, length, get_or, take, replicate}
+use Rattle.std.specs.Prelude.{◌≡◌, refl, ◌↔◌, List, ◌∷◌, ◌++◌, ℕ, ◌+◌, ◌*◌, ◌≤◌, ◌<◌, min, length, get_or, take, replicate}
 use Rattle.std.proofs.Common.{sym, ap, ◌∙◌, inl, inr, arith, lit≤, length-take, length-take-le, take_all, get_or-take, ext_get_or}
 use Rattle.std.proofs.Math.Logic.{by_cases}
 use Rattle.std.proofs.Math.Decide.{dec_lt}
-use Rattle.ardenquill.specs.Files.{read_answer}
 use Rattle.promises.specs.FileInBytes.{Word, Header, read_length, header_known}
 use Rattle.promises.specs.Columns.{IsRefusal, refusal_is}
 use Rattle.chainreport.specs.Printed.{printed}

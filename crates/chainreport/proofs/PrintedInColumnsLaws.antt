@@ -2,7 +2,7 @@
 -- What the report program prints, by what reading and analysing answer: of the words by which it is defined none stands in these laws but `printed`.
 --   prints_as_read, prints_as_analysed, prints_as_reported
 --                          the line of the reader's refusal; else of the analysis'; else the report
-use Rattle.std.specs.Prelude.{◌≡◌, refl, cond, ◌≢◌, List, eqb}
+use Rattle.std.specs.Prelude.{◌≡◌, refl, ◌≢◌, List}
 use Rattle.std.proofs.Math.Path.{sym, ap, subst}
 use Rattle.std.proofs.Common.{◌∙◌, le_refl, arith, eq-eqb, ne_eqb, le-ltb}
 use Prim.Native.Nat.{ℕ, ◌+◌}
@@ -10,7 +10,7 @@ use Rattle.std.proofs.Math.ListN.{length}
 use Rattle.ardenquill.specs.Chains.{answered, fine}
 use Rattle.ardenquill.specs.Files.{read_answer, read_refusal, chain_of, room_check}
 use Rattle.ardenquill.specs.Analyses.{analysis_of, analyse_answer, analyse_refusal, sized}
-use Rattle.ardenquill.specs.Reports.{report_text, refusal_text, file_refusal, longest_report, report_roomy, report_as_read, report_as_analysed, report_as_room}
+use Rattle.ardenquill.specs.Reports.{report_text, file_refusal, longest_report, report_roomy, report_as_read, report_as_analysed, report_as_room}
 use Rattle.ardenquill.specs.Records.{Refusal, Chain}
 use Rattle.promises.specs.Replay.{accepts_is}
 use Rattle.promises.specs.Laws.{report_is as answered-analysis}

@@ -3,7 +3,7 @@
 --   prints_refusal, prints_report
 --                    how the library's calls, with room for the longest report, leave it at the front of what is lent to them
 use Rattle.std.specs.Prelude.{◌≡◌, cond, List, ◌++◌, ℕ, ◌^◌, ◌≤◌, ◌<◌, eqb, take, drop}
-use Rattle.std.proofs.Common.{sym, ◌∙◌, arith, take_at, eq-eqb, ne_eqb}
+use Rattle.std.proofs.Common.{sym, ◌∙◌, arith, eq-eqb, ne_eqb}
 use Rattle.std.proofs.Math.Path.{ap}
 use Rattle.std.proofs.Math.ListN.{length}
 use Rattle.ardenquill.specs.Files.{Output, output_fine, room_check}

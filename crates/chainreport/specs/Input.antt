@@ -6,13 +6,8 @@
 --   Answers b n t    the text t is what is to be printed of every input that b holds so
 --   ReadInto i b n   of the input i the first n bytes stand at the front of b, and none is left unread that b has room for
 -- What is named here and not declared stands in proofs/InputLaws.antt.
-use Rattle.std.specs.Prelude.{◌≡◌, refl, ◌↔◌, ◌≢◌, List, ◌∷◌, ◌++◌, ℕ, ◌+◌, ◌*◌, ◌≤◌, ◌<◌, min, length, get_or, take, replicate}
-use Rattle.std.proofs.Common.{sym, ap, ◌∙◌, inl, inr, arith, lit≤, length-take, length-take-le, take_all, get_or-take, ext_get_or}
-use Rattle.std.proofs.Math.Logic.{by_cases}
-use Rattle.std.proofs.Math.Decide.{dec_lt}
+use Rattle.std.specs.Prelude.{◌≡◌, ◌≢◌, List, ℕ, ◌≤◌, ◌<◌, length, get_or, take}
 use Rattle.ardenquill.specs.Files.{read_answer}
-use Rattle.promises.specs.FileInBytes.{Word, Header, read_length, header_known}
-use Rattle.promises.specs.Columns.{IsRefusal, refusal_is}
 use Rattle.chainreport.specs.Printed.{printed}
 
 -- 1: "length under 20 or over 4,096"

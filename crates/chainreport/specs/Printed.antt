@@ -1,13 +1,10 @@
 -- What the report program prints (01, Report program).
 --   printed f        the report of the file f, or the line of its refusal
-use Rattle.std.specs.Prelude.{◌≡◌, cond, List, ◌++◌, ℕ, ◌^◌, ◌≤◌, ◌<◌, eqb, take, drop}
-use Rattle.std.proofs.Common.{sym, ◌∙◌, arith, take_at, eq-eqb, ne_eqb}
+use Rattle.std.specs.Prelude.{◌≡◌, cond, List, ◌++◌, ℕ, eqb, take, drop}
+use Rattle.std.proofs.Common.{sym, ◌∙◌, take_at}
 use Rattle.std.proofs.Math.Path.{ap}
 use Rattle.std.proofs.Math.ListN.{length}
-use Rattle.ardenquill.specs.Files.{Output, output_fine, room_check}
-use Rattle.ardenquill.specs.Reports.{report_text, report_refusal, refusal_text, file_refusal, longest_report, longest_refusal, report_written, report_roomy, refusal_room}
-use Rattle.chain.specs.declared.Refusal.{Refusal}
-use Rattle.chainfile.specs.declared.LengthAnswer.{LengthAnswer}
+use Rattle.ardenquill.specs.Reports.{report_text, refusal_text, file_refusal}
 
 -- the report, or, where 1 to 7 refuse the file, "only the line `refused,number,place`"
 unfoldable pub printed : List ℕ → List ℕ

@@ -7,7 +7,7 @@
 --   fires_settles               so many firings leave less than τ
 --   fires_unique, fires_is      it is the only count that leaves less than τ and whose last firing found τ
 use Rattle.std.specs.Prelude.{◌≡◌, ◌↔◌, ℕ, zero, suc, ◌+◌, ◌-◌, ◌*◌, ◌/◌, ◌≤◌, ◌<◌}
-use Rattle.std.proofs.Common.{sym, ap, lt_of_not-le, le-div_iff_mul-le, arith, lt-ltb, le-ltb}
+use Rattle.std.proofs.Common.{sym, ap, lt_of_not-le, le-div_iff_mul-le, arith, lt-ltb}
 use Rattle.std.proofs.Math.Decide.{dec_le}
 use Rattle.arith.specs.Division.{floor_above, floor_unique, floor_mono, floor_shift}
 use Rattle.events.specs.Counts.{fires}

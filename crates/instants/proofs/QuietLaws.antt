@@ -17,14 +17,13 @@ use Rattle.chain.specs.Record.{work_of}
 use Rattle.chain.specs.declared.Chain.{Chain}
 use Rattle.state.specs.State.{done_at}
 use Rattle.state.specs.declared.Run.{Run}
-use Rattle.instants.specs.Steps.{clean, onward, sourced, lacking, chosen, worked, finished, begun, tick, ticks}
+use Rattle.instants.specs.Steps.{clean, onward, lacking, chosen, worked, ticks}
 use Rattle.instants.specs.Runs.{onward_clean}
 use Rattle.instants.proofs.RunsLaws.{ticks_none, ticks_suc, ticks_more}
-use Rattle.instants.proofs.KeptLaws.{begun_silent, chosen_low, tick_works, worked_counts, worked_held, worked_clock, worked_same, works_on, works_filled}
+use Rattle.instants.proofs.KeptLaws.{chosen_low, worked_counts, worked_held, worked_clock, worked_same, works_filled}
 use Rattle.instants.specs.Filled.{Filled}
 use Rattle.instants.proofs.FilledLaws.{filled_as, lacking_as, chosen_as}
 use Rattle.instants.specs.Source.{Due}
-use Rattle.instants.proofs.SourceLaws.{source_rests}
 use Rattle.instants.specs.declared.Ticked.{Ticked}
 use Rattle.instants.specs.Quiet.{worked_in, worked_for}
 use Rattle.instants.proofs.QuietTick.{quiet_tick}

@@ -1,27 +1,17 @@
 -- One tick in which the source is not due and no firing is finished is work alone. It stands alone, since an edit changes what it says.
-use Rattle.std.specs.Prelude.{◌≡◌, refl, List, ℕ, zero, suc, ◌+◌, ◌/◌, ◌%◌, ◌≤◌, ◌<◌, length, get_or, set}
-use Rattle.std.proofs.Common.{sym, ap, subst, ◌∙◌, add-zero, mod-eq_of_lt, arith, length-set, get_or-set_same, get_or-set_other, set-set}
-use Rattle.std.proofs.Math.Logic.{by_cases}
-use Rattle.std.specs.Int.{◌∣◌}
-use Rattle.std.proofs.Math.Nat.{div-add-mod, mod-eq-zero_of_dvd}
-use Rattle.std.proofs.Math.Decide.{ℕ_discrete}
-use Rattle.std.proofs.lemmas.List.{set-get_or}
-use Rattle.arith.specs.Division.{rest_of_sum}
+use Rattle.std.specs.Prelude.{◌≡◌, ℕ, suc, ◌+◌, ◌<◌}
+use Rattle.std.proofs.Common.{sym, ap, subst, ◌∙◌}
 use Rattle.chain.specs.Refusals.{Silent}
 use Rattle.chain.specs.Record.{work_of}
 use Rattle.chain.specs.declared.Chain.{Chain}
 use Rattle.state.specs.State.{done_at}
 use Rattle.state.specs.declared.Run.{Run}
-use Rattle.instants.specs.Steps.{clean, onward, sourced, lacking, chosen, worked, finished, begun, tick, ticks}
-use Rattle.instants.specs.Runs.{onward_clean}
-use Rattle.instants.proofs.RunsLaws.{ticks_none, ticks_suc, ticks_more}
-use Rattle.instants.proofs.KeptLaws.{begun_silent, chosen_low, tick_works, worked_counts, worked_held, worked_clock, worked_same, works_on, works_filled}
+use Rattle.instants.specs.Steps.{clean, sourced, lacking, chosen, worked, finished, begun, tick}
+use Rattle.instants.proofs.KeptLaws.{begun_silent, tick_works, works_on}
 use Rattle.instants.specs.Filled.{Filled}
-use Rattle.instants.proofs.FilledLaws.{filled_as, lacking_as, chosen_as}
 use Rattle.instants.specs.Source.{Due}
 use Rattle.instants.proofs.SourceLaws.{source_rests}
 use Rattle.instants.specs.declared.Ticked.{Ticked}
-use Rattle.instants.specs.Quiet.{worked_in, worked_for}
 
 -- N_i is the node that works, each node over threshold having a deadline; the source is not due, and the work of N_i goes on
 pub quiet_tick : {c : Chain} {s : Run} → Filled c s → Silent (lacking c s) → (i : ℕ) → chosen c s ≡ i → (Due c s → ⊥)

@@ -13,17 +13,16 @@
 --                            and so has a run
 use Rattle.std.specs.Prelude.{◌≡◌, not, ◌&&◌, eqb}
 use Rattle.std.proofs.Math.Path.{refl, ap, ap₂}
-use Rattle.std.proofs.Common.{sym, ◌∙◌, arith}
+use Rattle.std.proofs.Common.{◌∙◌, arith}
 use Rattle.std.proofs.Math.Bool.{cond}
 use mathlib.Core.List.{List, [], ◌∷◌, ◌++◌, map}
 use Prim.Native.Nat.{ℕ, zero, suc, ◌+◌, ◌*◌, ◌/◌, ◌≤◌, ◌<◌}
 use Rattle.std.proofs.Math.Dec.{ltb}
 use Rattle.words.specs.Flat.{flat}
-use Rattle.words.specs.Rows.{none}
-use Rattle.words.specs.Table.{tab, slots, slot_used, slots_alike}
+use Rattle.words.specs.Table.{tab, slots, slots_alike}
 use Rattle.words.specs.declared.Queue.{Queue}
 use Rattle.chain.specs.Refusals.{test, first}
-use Rattle.chain.specs.Record.{row_of, work_of, trimmed}
+use Rattle.chain.specs.Record.{row_of, work_of}
 use Rattle.chain.specs.Checks.{Field, ticks, row_fields, fields, count_check, out_of_range, range_check, overdrawn, order_check, record_range, record_order, chain_checks, chain_refusal}
 use Rattle.chain.specs.declared.Refusal.{Refusal}
 use Rattle.chain.specs.declared.Chain.{Chain}
@@ -33,7 +32,6 @@ use Rattle.sizing.specs.Load.{busy_in, cycle_of, busy_of}
 use Rattle.sizing.specs.Sizes.{minimum_of, size_by, size_of, no_size, empty_analysis, analysis_of, sized}
 use Rattle.sizing.specs.Checks.{too_large, rate_test, rate_check, load_check, capacity_test, capacity_check, analyse_checks, analyse_refusal, run_refusal, analyse_answer, run_answer}
 use Rattle.slots.specs.Chains.{AlikeChains, tabs_alike, flat_alike}
-use Rattle.slots.proofs.Trimmed.{trimmed_alike}
 
 -- a chain and itself
 pub alike_refl : (c : Chain) → AlikeChains c c
