@@ -3,7 +3,6 @@
 --   longest_passes   there is one of that length; of longer ones there is none (prints_too_long)
 --   prints_too_long  of an input above that length the line of 1 at 0 is printed
 --   front_enough     so a front above that length tells what is to be printed of the whole input
---   answers_exactly  and what is printed of the bytes held is what is to be printed of the input, however much of it was left unread
 --   answers_inputs   so a text answers exactly when it is what is to be printed of every input that was read into b so
 use Rattle.std.specs.Prelude.{◌≡◌, refl, ◌↔◌, List, ◌∷◌, ◌++◌, ℕ, ◌+◌, ◌*◌, ◌≤◌, ◌<◌, min, length, get_or, take, replicate}
 use Rattle.std.proofs.Common.{sym, ap, ◌∙◌, inl, inr, arith, lit≤, length-take, length-take-le, take_all, get_or-take, ext_get_or}
@@ -40,12 +39,6 @@ front_enough i m l = by_cases (dec_lt m (length i)) over (λ fits. ap printed (t
     over k =
         let front = prints_too_long (take m i) (omega (arith, length-take-le m i (omega arith))) in
         (refusal_is 1 0 _).0 front ∙ sym ((refusal_is 1 0 _).0 (prints_too_long i (omega arith)))
-
-pub answers_exactly : (b t : List ℕ) (n : ℕ) → longest_file < length b → n ≤ length b → Answers b n t ↔ (t ≡ printed (take n b))
-answers_exactly b t n long l = (
-  λ a. a (take n b) (sym (take_all (length b) (take n b) (omega (arith, length-take-le n b l)))),
-  λ e i h. e ∙ ap printed h ∙ front_enough i (length b) long,
-)
 
 -- which is what it is to hold an input
 read_into_is : (i b : List ℕ) (n : ℕ) → n ≤ length b → Holds i b n ↔ ReadInto i b n

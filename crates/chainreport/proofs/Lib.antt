@@ -1,3 +1,4 @@
 pub mod InputLaws
+pub mod AnswersExactly
 pub mod PrintedLaws
 pub mod PrintedInColumnsLaws

@@ -2,7 +2,7 @@
 -- input.
 use Rattle.std.proofs.Common.{◌^◌, ◌<◌, rules}
 use Rattle.chainreport.proofs.PrintedLaws.{prints_refusal, prints_report}
-use Rattle.chainreport.proofs.InputLaws.{answers_exactly}
+use Rattle.chainreport.proofs.AnswersExactly.{answers_exactly}
 use Rattle.chainreport.proofs.answer.Goals as goal
 
 pub returns-then-report-ne0-clause-answers : goal.returns-then-report-ne0-clause-answers
