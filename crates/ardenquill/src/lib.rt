@@ -1,4 +1,5 @@
-// Ardenquill as its users see it: every public call, for Rattle under its own name and for C as in include/ardenquill.h.
+// Ardenquill as its users see it: every public call, for Rattle under its own name and with the parameters that C has
+// (include/ardenquill.h), for which `ardenquill_c` exports it.
 // No call has a `requires`: each takes any bytes, record or number and answers.
 #![tactic(auto)]
 
@@ -171,7 +172,9 @@ pub fn ardenquill_recording_tick(chain: &Chain, run: &mut Run, losses: &mut Loss
 }
 
 // How a recording run of so many ticks from a fresh start ended and the state and the list that it left, or the first of 2, 4,
-// 5, 6, 7 and 9 that refuses it.
+// 5, 6, 7 and 9 that refuses it. Where it is exported it is inlined, since each call that answers a list has it on the stack
+// once more.
+#[inline(always)]
 pub fn ardenquill_recording_run(chain: Chain, ticks: u32) -> OutcomeRecording
     ensures { result ≡ rec_flat (rec_run_answer chain ticks) }
 {
@@ -262,12 +265,11 @@ fn rec_coded(recorded: RecordAnswer) -> OutcomeAnswer
     }
 }
 
-// A recording answer as C has it, with its state and its list.
+// A recording answer as C has it, with its state and its list; inlined for the same reason.
+#[inline(always)]
 fn rec_flattened(answer: RecordAnswer) -> OutcomeRecording
     ensures { result ≡ rec_flat answer }
 {
-    let run = answer.run;
-    let losses = answer.losses;
     let code = rec_coded(answer);
     OutcomeRecording {
         number: code.number,
@@ -275,8 +277,8 @@ fn rec_flattened(answer: RecordAnswer) -> OutcomeRecording
         kind: code.kind,
         tick: code.tick,
         at: code.at,
-        run: run,
-        losses: losses,
+        run: answer.run,
+        losses: answer.losses,
     }
 }
 

@@ -40,7 +40,9 @@ pub fn refusal_line(number: u32, place: u32, out: &mut [u8]) -> LengthAnswer
 }
 
 // Writes the report of an analysis, or 10 where there is no room for it. Where there is room for the longest report it
-// goes straight into the lent bytes; else its length has to be known before the first byte may be written.
+// goes straight into the lent bytes; else its length has to be known before the first byte may be written. A call of its own,
+// so that its memory is not taken while the file is read.
+#[inline(never)]
 fn write_text(analysis: Analysis, out: &mut [u8]) -> LengthAnswer
     requires { Few analysis.n }
     ensures { Output (room_check (length (text_of analysis)) (length out.old)) (text_of analysis) out.old out.new result }
