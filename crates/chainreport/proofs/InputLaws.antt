@@ -3,16 +3,19 @@
 --   longest_passes   there is one of that length; of longer ones there is none (prints_too_long)
 --   prints_too_long  of an input above that length the line of 1 at 0 is printed
 --   front_enough     so a front above that length tells what is to be printed of the whole input
+--   loses_nothing   what a read that fails leaves, byte by byte
 --   answers_inputs   so a text answers exactly when it is what is to be printed of every input that was read into b so
-use Rattle.std.specs.Prelude.{◌≡◌, refl, ◌↔◌, List, ◌∷◌, ◌++◌, ℕ, ◌+◌, ◌*◌, ◌≤◌, ◌<◌, min, length, get_or, take, replicate}
-use Rattle.std.proofs.Common.{sym, ap, ◌∙◌, inl, inr, arith, lit≤, length-take, length-take-le, take_all, get_or-take, ext_get_or}
+use Rattle.std.specs.Prelude.{◌≡◌, refl, ◌↔◌, List, ◌∷◌, ◌++◌, ℕ, ◌+◌, ◌*◌, ◌≤◌, ◌<◌, min, length, get_or, take, replicate, ◌-◌, Some}
+use Rattle.std.proofs.Common.{sym, ap, ◌∙◌, inl, inr, arith, lit≤, length-take, length-take-le, length-append, take_all, get_or-take, ext_get_or}
 use Rattle.std.proofs.Math.Logic.{by_cases}
+use Rattle.std.proofs.Math.ListN.{get_or-append}
+use Rattle.std.proofs.lemmas.List.{get_or-append-add}
 use Rattle.std.proofs.Math.Decide.{dec_lt}
 use Rattle.promises.specs.FileInBytes.{Word, Header, read_length, header_known}
 use Rattle.promises.specs.Columns.{IsRefusal, refusal_is}
 use Rattle.chainreport.specs.Printed.{printed}
 use Rattle.chainreport.proofs.PrintedInColumnsLaws.{prints_as_read}
-use Rattle.chainreport.specs.Input.{longest_file, LetPass, Holds, Answers, ReadInto}
+use Rattle.chainreport.specs.Input.{longest_file, LetPass, Holds, LosesNothing, Answers, ReadInto}
 
 -- zeros but for the total word, which is 4,096
 pub longest_passes : LetPass longest_file
@@ -68,3 +71,21 @@ read_into_is i b n l = (out, back)
 
 pub answers_inputs : (b t : List ℕ) (n : ℕ) → n ≤ length b → Answers b n t ↔ ((i : List ℕ) → ReadInto i b n → t ≡ printed i)
 answers_inputs b t n l = (λ a i r. a i ((read_into_is i b n l).1 r), λ a i h. a i ((read_into_is i b n l).0 h))
+
+-- of a known input i, r is what is left behind a front, and that front stands byte by byte at the front of b
+pub loses_nothing : (i r b : List ℕ) → LosesNothing (Some i) (Some r) b
+    → (length r ≤ length i) × (((k : ℕ) → k + length r < length i → get_or i k 0 ≡ get_or b k 0) × ((k : ℕ) → get_or i ((length i - length r) + k) 0 ≡ get_or r k 0))
+loses_nothing i r b (n, (fits, e)) = (omega (arith, long), (front, behind))
+  where
+    long : length i ≡ n + length r
+    long = ap length e ∙ length-append (take n b) r ∙ ap (λ (m : ℕ). m + length r) (length-take-le n b fits)
+
+    front : (k : ℕ) → k + length r < length i → get_or i k 0 ≡ get_or b k 0
+    front k l =
+        let inside : k < length (take n b) = omega (arith, long, length-take-le n b fits) in
+        ap (λ (t : List ℕ). get_or t k 0) e ∙ get_or-append (take n b) r 0 k inside ∙ get_or-take n b k 0 (omega (arith, long))
+
+    behind : (k : ℕ) → get_or i ((length i - length r) + k) 0 ≡ get_or r k 0
+    behind k =
+        let at : (length i - length r) + k ≡ length (take n b) + k = omega (arith, long, length-take-le n b fits) in
+        ap (λ (m : ℕ). get_or i m 0) at ∙ ap (λ (t : List ℕ). get_or t (length (take n b) + k) 0) e ∙ get_or-append-add (take n b) r k 0

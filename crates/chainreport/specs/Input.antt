@@ -4,9 +4,13 @@
 --   IsPrefixLen n b  n of the bytes b stand at its front, and no more than there are
 --   Holds i b n      the first n of the bytes b are what b has room for of the input i
 --   Answers b n t    the text t is what is to be printed of every input that b holds so
+--   LosesNothing o r b
+--                    what is known of the input before, o, is some front of b and what is known to be left, r
 --   ReadInto i b n   of the input i the first n bytes stand at the front of b, and none is left unread that b has room for
 -- What is named here and not declared stands in proofs/InputLaws.antt.
 use Rattle.std.specs.Prelude.{◌≡◌, ◌≢◌, List, ℕ, ◌≤◌, ◌<◌, length, get_or, take}
+use Rattle.std.specs.Io.KnownBytes.{Consumes}
+use Rattle.core.specs.declared.option.Option.{Option}
 use Rattle.ardenquill.specs.Files.{read_answer}
 use Rattle.chainreport.specs.Printed.{printed}
 
@@ -31,6 +35,10 @@ Holds i b n = take n b ≡ take (length b) i
 -- nothing is known of an input but what b holds of it, so the text must be right for all of them
 abbrev pub Answers : List ℕ → ℕ → List ℕ → Type 0
 Answers b n t = (i : List ℕ) → Holds i b n → t ≡ printed i
+
+-- what a read that fails leaves: of the input there is gone what stands at the front of b, and nothing else
+abbrev pub LosesNothing : Option (List ℕ) → Option (List ℕ) → List ℕ → Type 0
+LosesNothing old new b = (n : ℕ) × ((n ≤ length b) × Consumes old new (take n b))
 
 -- "reads a chain file from standard input", byte by byte: those at the front of b are the input's, and there are fewer than the input has only where b is full
 pub record ReadInto (i b : List ℕ) (n : ℕ) : Type 0 where

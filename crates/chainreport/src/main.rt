@@ -3,11 +3,11 @@
 // bytes a contract can name, and `main` hands it the system's.
 #![tactic(auto)]
 
-ghost use Rattle.std.specs.Prelude.{◌≤◌, ◌<◌, length, take, IfOk, IfSome, OnOk};
+ghost use Rattle.std.specs.Prelude.{◌≤◌, ◌<◌, length, take, IfOk, IfSome, OnErr, OnOk};
 ghost use Rattle.std.specs.Io.KnownBytes.{Appends};
 ghost use Rattle.ardenquill.specs.Reports.{longest_report};
 ghost use Rattle.chainreport.specs.Printed.{printed};
-ghost use Rattle.chainreport.specs.Input.{longest_file, IsPrefixLen, Holds, Answers};
+ghost use Rattle.chainreport.specs.Input.{longest_file, IsPrefixLen, Holds, LosesNothing, Answers};
 
 use std::io;
 use std::io::{Read, Write};
@@ -34,6 +34,7 @@ fn read<R: Read>(input: &mut R, file: &mut [u8]) -> io::Result<usize>
     requires { longest_file < length file.old }
     ensures prefix_len { IfOk result (λ n. IsPrefixLen n file.new) }
     ensures holds { IfOk result (λ n. IfSome (R.remaining input.old) (λ i. Holds i file.new n)) }
+    ensures failed { OnErr result (LosesNothing (R.remaining input.old) (R.remaining input.new) file.new) }
 {
     let mut end = 0;
     while end < file.len() {
