@@ -10,7 +10,7 @@
 -- What is named here and not declared stands in proofs/InputLaws.antt.
 use Rattle.std.specs.Prelude.{◌≡◌, ◌≢◌, List, ℕ, ◌≤◌, ◌<◌, length, get_or, take}
 use Rattle.std.specs.Io.KnownBytes.{Consumes}
-use Rattle.core.specs.declared.option.Option.{Option}
+use Rattle.std.specs.declared.option.Option.{Option}
 use Rattle.ardenquill.specs.Files.{read_answer}
 use Rattle.chainreport.specs.Printed.{printed}
 
