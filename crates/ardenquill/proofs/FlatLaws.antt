@@ -17,7 +17,7 @@ use Rattle.instants.proofs.ExactlyLaws.{one_stays}
 use Rattle.instants.proofs.AnswersLaws.{answer_one}
 use Rattle.instants.specs.declared.Outcome.{Outcome}
 use Rattle.instants.specs.declared.Outcome.TheVariants.{Clean, Overflowed, NoDeadline}
-use Rattle.instants.specs.declared.TickAnswer.{TickAnswer}
+use Rattle.instants.specs.Answered.{TickAnswer}
 use Rattle.ardenquill.specs.Flat.{coded, is_clean}
 
 -- which an answer is exactly where it was not refused and its outcome is this

@@ -22,7 +22,7 @@ use Rattle.recordings.specs.Answers.{rec_tick_refusal, rec_tick_answer}
 use Rattle.recordings.proofs.RecRefusalsLaws.{rec_tick_accepts, rec_tick_ran, rec_tick_refused}
 use Rattle.recordings.specs.declared.RecordOutcome.{RecordOutcome}
 use Rattle.recordings.specs.declared.RecordOutcome.TheVariants.{Clean, NoDeadline, ListFull}
-use Rattle.recordings.specs.declared.RecordAnswer.{RecordAnswer}
+use Rattle.recordings.specs.Answered.{RecordAnswer}
 use Rattle.ardenquill.specs.RecFlat.{rec_kind_of, rec_coded, rec_moves, Moving, rec_grows}
 
 pub rec_kind_number : (o : RecordOutcome) → rec_number_of o ≡ cond (eqb (rec_kind_of o) 2) 13 (cond (eqb (rec_kind_of o) 3) 15 0)

@@ -16,7 +16,7 @@ pub use Rattle.sizing.specs.Nodes.{stretch_of, source_rate, x_pos, y_pos, y_stre
 unfoldable pub use Rattle.sizing.specs.Load.{busy_in}
 pub use Rattle.sizing.specs.Load.{busy_of, cycle_of, parts_exact, busy_next}
 pub use Rattle.rates.specs.Load.{capped, capped_above}
-pub use Rattle.sizing.specs.Sizes.{start, least_of, minimum_of, naming_of, capacity_of, margin_of, size_of, no_size, empty_analysis, refused_with}
+pub use Rattle.sizing.specs.Sizes.{start, least_of, minimum_of, naming_of, capacity_of, margin_of, size_of, no_size, empty_analysis, refused_with, analysis_said}
 pub use Rattle.sizing.proofs.SizesLaws.{margin_unwritten, margin_written, size_at}
 unfoldable pub use Rattle.sizing.specs.Sizes.{size_by, analysis_of, sized}
 unfoldable pub use Rattle.sizing.specs.Checks.{analyse_refusal, analyse_answer, run_refusal, run_answer}

@@ -8,6 +8,7 @@ pub use Rattle.chain.specs.Refusals.{refused, fine, test, or_else, Silent, First
 pub use Rattle.chain.specs.Refusals.{Only, only_test, test_alone, numbered_length, numbered_own, absent, or_says}
 pub use Rattle.chain.specs.Refusals.{or_silents, first_append, all_silent, test_exact, test_silent, or_left}
 unfoldable pub use Rattle.chain.specs.Refusals.{Silents, Numbered, first}
+pub use Rattle.chain.specs.Said.{code, refusal, said, speaks, chain_said}
 pub use Rattle.chain.specs.Record.{row_of, work_of, empty_chain, refused_alike, answered_fine, same_chain}
 unfoldable pub use Rattle.chain.specs.Record.{trimmed, answered}
 pub use Rattle.chain.specs.Checks.{Field, field, ticks, fields, count_check, out_of_range, range_check, overdrawn, record_range}

@@ -3,6 +3,7 @@ unfoldable pub use Rattle.deadline.specs.Deadline.{earlier, deadline, index_chec
 pub use Rattle.deadline.specs.Deadline.{FirstPassing}
 pub use Rattle.deadline.proofs.DeadlineLaws.{index_exact, index_silent, index_only, earlier_some, earlier_mono, earlier_shift, deadline_mono, deadline_shift}
 unfoldable pub use Rattle.dates.specs.Question.{answered_due, deadline_refusal, deadline_answer}
+pub use Rattle.dates.specs.Question.{due_said}
 pub use Rattle.dates.specs.Question.{ask_check, deadline_checks}
 pub use Rattle.dates.proofs.QuestionLaws.{ask_exact, ask_silent, ask_only, deadline_parts}
 pub use Rattle.dates.specs.Question.{deadline_numbers}

@@ -11,7 +11,7 @@ pub use Rattle.chainfile.proofs.FileLaws.{read_1, read_2}
 pub use Rattle.chainfile.specs.File.{read_numbers, length_silent}
 pub use Rattle.chainfile.proofs.FileLaws.{read_3, read_4, read_5, read_numbered, bad_table_law, good_table, overlap_false}
 unfoldable pub use Rattle.chainfile.specs.File.{read_refusal, read_answer, chain_of, offset_check}
-pub use Rattle.chainfile.specs.Packed.{packed_length, header, rows, nodes, words, room_check, write_checks, not_written, written, Output, output_fine}
+pub use Rattle.chainfile.specs.Packed.{packed_length, header, rows, nodes, words, room_check, write_checks, not_written, written, length_said, Output, output_fine}
 pub use Rattle.chainfile.specs.Packed.{output_within, write_2, write_4, write_5, write_10, write_numbers, write_numbered, packed_length_law, room_only}
 unfoldable pub use Rattle.chainfile.specs.Packed.{packed, write_refusal}
 pub use Rattle.chainfile.specs.Accepted.{Placed, AcceptedFile, write_accepts, write_fine}

@@ -4,7 +4,7 @@
 --   is_clean a               whether a, as C has it, is the answer of a tick that was taken and ended clean
 use Rattle.std.specs.Prelude.{Bool, ◌&&◌, eqb}
 use Rattle.instants.specs.Steps.{kind_of, tick_of, at_of}
-use Rattle.instants.specs.declared.TickAnswer.{TickAnswer}
+use Rattle.instants.specs.Answered.{TickAnswer}
 use Rattle.ardenquill.specs.declared.OutcomeAnswer.{OutcomeAnswer}
 use Rattle.ardenquill.specs.declared.OutcomeRun.{OutcomeRun}
 

@@ -7,6 +7,7 @@ pub use Rattle.losses.proofs.LossesLaws.{is_noted, noted_slot, noted_slots, note
 unfoldable pub use Rattle.losses.specs.Checks.{stray_check, list_check}
 pub use Rattle.losses.specs.Checks.{long_check, stray_test, Stray, Named, LongOrStray}
 pub use Rattle.losses.proofs.ChecksLaws.{list_exact, list_silent, list_only}
+pub use Rattle.recordings.specs.Answered.{recorded_said}
 unfoldable pub use Rattle.recordings.specs.Steps.{rec_goes, rec_onward, lost_firing, recorded_by, recorded, rec_sourced, rec_begun, rec_advanced, rec_finished, rec_tick, rec_ticks, rec_instants}
 pub use Rattle.recordings.specs.Steps.{rec_number_of, rec_values_of, rec_tick_of, rec_at_of, rec_clean, rec_undated, rec_full, dropped}
 pub use Rattle.recordings.proofs.StepsLaws.{rec_values}

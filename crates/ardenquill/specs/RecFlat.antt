@@ -15,7 +15,7 @@ use Rattle.recordings.specs.Steps.{rec_tick_of, rec_at_of}
 use Rattle.recordings.specs.Answers.{rec_tick_answer}
 use Rattle.recordings.specs.declared.RecordOutcome.{RecordOutcome}
 use Rattle.recordings.specs.declared.RecordOutcome.TheVariants.{Clean, NoDeadline, ListFull}
-use Rattle.recordings.specs.declared.RecordAnswer.{RecordAnswer}
+use Rattle.recordings.specs.Answered.{RecordAnswer}
 use Rattle.ardenquill.specs.declared.OutcomeAnswer.{OutcomeAnswer}
 use Rattle.ardenquill.specs.declared.OutcomeRecording.{OutcomeRecording}
 

@@ -1,5 +1,5 @@
 -- What the public calls promise of run states and of one manual firing, handed on from the crates `state` and `slots`.
-pub use Rattle.state.specs.State.{count_at, held_at, done_at, empty_run, fresh_empty, zeros, fresh_count, fresh_held, refused_with}
+pub use Rattle.state.specs.State.{count_at, held_at, done_at, empty_run, fresh_empty, zeros, fresh_count, fresh_held, refused_with, run_said}
 unfoldable pub use Rattle.state.specs.State.{fresh_run, answered}
 unfoldable pub use Rattle.state.specs.Fired.{fired}
 pub use Rattle.state.specs.Fired.{Over, over_enough, Room, May, Balance, Slots}

@@ -1,5 +1,6 @@
 -- What the public calls promise of one tick and of a deadline run, handed on from the crates `instants` (their meaning), `traces` (their
 -- firings) and `tickslots` (the slots past n).
+pub use Rattle.instants.specs.Answered.{ticked_said}
 unfoldable pub use Rattle.instants.specs.Steps.{goes, onward, sourced, lacking, choose, chosen, worked, ended_in, finish, finished, begun, advanced, tick, ticks, instants}
 pub use Rattle.instants.specs.Steps.{number_of, values_of, kind_of, tick_of, at_of, kind_values, clean, overflowed, undated, with_clock, with_done, divides, next, lacking_test, as_early, ended}
 pub use Rattle.instants.proofs.StepsLaws.{kind_number}

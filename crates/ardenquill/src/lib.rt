@@ -5,7 +5,7 @@
 
 ghost use Rattle.std.specs.Prelude.{◌≡◌, length};
 ghost use Rattle.ardenquill.specs.Files.{read_answer, packed, write_refusal, Output};
-ghost use Rattle.ardenquill.specs.Chains.{factory_answer};
+ghost use Rattle.ardenquill.specs.Chains.{code, factory_answer};
 ghost use Rattle.ardenquill.specs.Analyses.{analyse_answer};
 ghost use Rattle.ardenquill.specs.Reports.{report_text, report_refusal};
 ghost use Rattle.ardenquill.specs.Runs.{fresh_answer, fire_answer};
@@ -15,16 +15,16 @@ ghost use Rattle.ardenquill.specs.Ticks.{kind_of, tick_of, at_of, tick_answer, d
 ghost use Rattle.ardenquill.specs.Flat.{coded, is_clean, flat};
 ghost use Rattle.recordings.specs.Steps.{rec_tick_of, rec_at_of};
 ghost use Rattle.recordings.specs.Answers.{rec_run_answer};
-ghost use Rattle.ardenquill.specs.RecFlat.{rec_kind_of, rec_coded, rec_moves, rec_grows, rec_flat, RecLeaves};
+ghost use Rattle.ardenquill.specs.RecFlat.{rec_kind_of, rec_moves, rec_grows, rec_flat, RecLeaves};
 
-pub use chain::{Chain, ChainAnswer, Queue, factory};
+pub use chain::{Chain, ChainAnswer, Queue, Reason, Refused, factory};
 pub use chainfile::{LengthAnswer, read, write};
 pub use dates::{DeadlineAnswer, deadline};
 pub use immediate::immediate;
-pub use instants::{Outcome, TickAnswer};
+pub use instants::{Outcome, Ticked};
 pub use losses::{Loss, Losses};
 pub use recorder::{recording_run, recording_tick};
-pub use recordings::{RecordAnswer, RecordOutcome};
+pub use recordings::{RecordOutcome, Recorded};
 pub use report::{headed, refusal_line, report};
 pub use reporttext::LONGEST_REPORT;
 pub use sizing::{Analysis, AnalysisAnswer, QueueSize, analyse, checked_for_run};
@@ -42,7 +42,8 @@ pub struct OutcomeAnswer {
     pub at: u32,
 }
 
-// The answer of a deadline run for C: the same, and the state that it left.
+// The answer of a deadline run for C: the same, and the state that it left. C's records are flat, so the five fields stand in each
+// (`outcome_run_lies` and `recording_lies` of callers/specs/Layouts.antt).
 #[repr(C)]
 #[derive(Clone, Copy)]
 pub struct OutcomeRun {
@@ -71,42 +72,42 @@ pub struct OutcomeRecording {
 pub fn ardenquill_read(file: &[u8]) -> ChainAnswer
     ensures { result ≡ read_answer file.now }
 {
-    read(file)
+    read(file).into()
 }
 
 // The packed file of a chain at the front of the lent bytes, or the first of 2, 4, 5 and 10 that refuses it.
 pub fn ardenquill_write(chain: Chain, out: &mut [u8]) -> LengthAnswer
     ensures { Output (write_refusal chain (length out.old)) (packed chain) out.old out.new result }
 {
-    write(chain, out)
+    write(chain, out).into()
 }
 
 // The factory chain of a number, or 14.
 pub fn ardenquill_factory(number: u32) -> ChainAnswer
     ensures { result ≡ factory_answer number }
 {
-    factory(number)
+    factory(number).into()
 }
 
 // The analysis of a chain, or the first of 2, 4, 5, 6 and 7 that refuses it.
 pub fn ardenquill_analyse(chain: Chain) -> AnalysisAnswer
     ensures { result ≡ analyse_answer chain }
 {
-    analyse(chain)
+    analyse(chain).into()
 }
 
 // The report of a file at the front of the lent bytes, or the first of 1 to 7 and 10 that refuses it.
 pub fn ardenquill_report(file: &[u8], out: &mut [u8]) -> LengthAnswer
     ensures { Output (report_refusal file.now (length out.old)) (report_text file.now) out.old out.new result }
 {
-    report(file, out)
+    report(file, out).into()
 }
 
 // A fresh start of a chain, or the first of 2, 4, 5, 6 and 7 that refuses it.
 pub fn ardenquill_fresh(chain: Chain) -> RunAnswer
     ensures { result ≡ fresh_answer chain }
 {
-    fresh(chain)
+    RunAnswer::new(fresh(chain), state::EMPTY)
 }
 
 // One manual firing: the state after it, or the state as it was with the first of 2, 4, 5, 6, 7, 17, 9, 11 and 12 that
@@ -114,7 +115,7 @@ pub fn ardenquill_fresh(chain: Chain) -> RunAnswer
 pub fn ardenquill_fire(chain: Chain, run: Run, node: u32) -> RunAnswer
     ensures { result ≡ fire_answer chain run node }
 {
-    run.fire(chain, node)
+    RunAnswer::new(run.fire(chain, node), run)
 }
 
 // The state after an immediate run of k source firings from a fresh start, or the first of 2, 4, 5, 6, 7, 8 and 9 that
@@ -122,14 +123,14 @@ pub fn ardenquill_fire(chain: Chain, run: Run, node: u32) -> RunAnswer
 pub fn ardenquill_immediate(chain: Chain, k: u32) -> RunAnswer
     ensures { result ≡ immediate_answer chain k }
 {
-    immediate(chain, k)
+    RunAnswer::new(immediate(chain, k), state::EMPTY)
 }
 
 // The deadline of a node's firing of this index, or the first of 2, 4, 5, 6, 7, 8, 11 and 13 that refuses the question.
 pub fn ardenquill_deadline(chain: Chain, node: u32, index: u32) -> DeadlineAnswer
     ensures { result ≡ deadline_answer chain node index }
 {
-    deadline(chain, node, index)
+    deadline(chain, node, index).into()
 }
 
 // One tick of the state that the controller lends: how it ended, the state being the one after it; or the first of 2, 4, 5, 6,
@@ -137,10 +138,17 @@ pub fn ardenquill_deadline(chain: Chain, node: u32, index: u32) -> DeadlineAnswe
 pub fn ardenquill_tick(chain: &Chain, run: &mut Run) -> OutcomeAnswer
     ensures { (run.new ≡ (tick_answer chain.now run.old).run) × (result ≡ coded (tick_answer chain.now run.old)) }
 {
-    let answer = tick(*chain, *run);
-    let code = coded(answer);
+    let ticked = tick(*chain, *run);
+    let code = match &ticked {
+        Ok(left) => left.outcome.into(),
+        Err(refused) => (*refused).into(),
+    };
+    let next = match &ticked {
+        Ok(left) => &left.run,
+        Err(_) => &*run,
+    };
     if is_clean(code) {
-        *run = answer.run;
+        *run = *next;
     }
     code
 }
@@ -150,7 +158,10 @@ pub fn ardenquill_tick(chain: &Chain, run: &mut Run) -> OutcomeAnswer
 pub fn ardenquill_deadline_run(chain: Chain, ticks: u32) -> OutcomeRun
     ensures { result ≡ flat (deadline_run_answer chain ticks) }
 {
-    flattened(deadline_run(chain, ticks))
+    match &deadline_run(chain, ticks) {
+        Ok(left) => with_run(left.outcome.into(), &left.run),
+        Err(refused) => with_run((*refused).into(), &state::EMPTY),
+    }
 }
 
 // One recording tick of the state and the list that the controller lends: how it ended, the two being those after it; or the
@@ -159,127 +170,130 @@ pub fn ardenquill_deadline_run(chain: Chain, ticks: u32) -> OutcomeRun
 pub fn ardenquill_recording_tick(chain: &Chain, run: &mut Run, losses: &mut Losses) -> OutcomeAnswer
     ensures { RecLeaves chain.now run.old losses.old run.new losses.new result }
 {
-    let list = *losses;
-    let answer = recording_tick(*chain, *run, list);
-    let code = rec_coded(answer);
+    let recorded = recording_tick(*chain, *run, *losses);
+    let code = match &recorded {
+        Ok(left) => left.outcome.into(),
+        Err(refused) => (*refused).into(),
+    };
+    let next = match &recorded {
+        Ok(left) => &left.run,
+        Err(_) => &*run,
+    };
     if rec_moves(code) {
-        *run = answer.run;
+        *run = *next;
     }
-    if rec_grows(list.count, answer.losses.count) {
-        *losses = answer.losses;
+    let list = match &recorded {
+        Ok(left) => &left.losses,
+        Err(_) => &*losses,
+    };
+    if rec_grows(losses.count, list.count) {
+        *losses = *list;
     }
     code
 }
 
 // How a recording run of so many ticks from a fresh start ended and the state and the list that it left, or the first of 2, 4,
-// 5, 6, 7 and 9 that refuses it. Where it is exported it is inlined, since each call that answers a list has it on the stack
-// once more.
+// 5, 6, 7 and 9 that refuses it. Where it is exported it is inlined, and its record is written out, since each call that answers a
+// list has it on the stack once more.
 #[inline(always)]
 pub fn ardenquill_recording_run(chain: Chain, ticks: u32) -> OutcomeRecording
     ensures { result ≡ rec_flat (rec_run_answer chain ticks) }
 {
-    rec_flattened(recording_run(chain, ticks))
+    let recorded = recording_run(chain, ticks);
+    let code: OutcomeAnswer = match &recorded {
+        Ok(left) => left.outcome.into(),
+        Err(refused) => (*refused).into(),
+    };
+    let mut answer = OutcomeRecording {
+        number: code.number,
+        place: code.place,
+        kind: code.kind,
+        tick: code.tick,
+        at: code.at,
+        run: state::EMPTY,
+        losses: losses::NONE,
+    };
+    if let Ok(left) = &recorded {
+        answer.run = left.run;
+        answer.losses = left.losses;
+    }
+    answer
 }
 
-// An answer as C has it, without its state.
-fn coded(answer: TickAnswer) -> OutcomeAnswer
-    ensures { result ≡ coded answer }
-{
-    let outcome = answer.outcome;
-    OutcomeAnswer {
-        number: answer.number,
-        place: answer.place,
-        kind: kind_of(outcome),
-        tick: tick_of(outcome),
-        at: at_of(outcome),
+// A refusal as C has it, with no outcome.
+impl From<Refused> for OutcomeAnswer {
+    ghost from_gives = { λ e a. a ≡ record { number = code e.reason; place = e.place; kind = 0; tick = 0; at = 0 } };
+
+    fn from(refused: Refused) -> OutcomeAnswer {
+        OutcomeAnswer {
+            number: refused.number(),
+            place: refused.place,
+            kind: 0,
+            tick: 0,
+            at: 0,
+        }
     }
 }
 
-// An answer as C has it, with its state.
-fn flattened(answer: TickAnswer) -> OutcomeRun
-    ensures { result ≡ flat answer }
+// An outcome as C has it, with no refusal.
+impl From<Outcome> for OutcomeAnswer {
+    ghost from_gives = { λ o a. a ≡ record { number = 0; place = 0; kind = kind_of o; tick = tick_of o; at = at_of o } };
+
+    fn from(outcome: Outcome) -> OutcomeAnswer {
+        match outcome {
+            Outcome::Clean => ended(0, 0, 0),
+            Outcome::Overflowed { tick, queue } => ended(1, tick, queue),
+            Outcome::NoDeadline { tick, node } => ended(2, tick, node),
+        }
+    }
+}
+
+// The same of a recording outcome.
+impl From<RecordOutcome> for OutcomeAnswer {
+    ghost from_gives = { λ o a. a ≡ record { number = 0; place = 0; kind = rec_kind_of o; tick = rec_tick_of o; at = rec_at_of o } };
+
+    fn from(outcome: RecordOutcome) -> OutcomeAnswer {
+        match outcome {
+            RecordOutcome::Clean => ended(0, 0, 0),
+            RecordOutcome::NoDeadline { tick, node } => ended(2, tick, node),
+            RecordOutcome::ListFull { tick, queue } => ended(3, tick, queue),
+        }
+    }
+}
+
+// How a call ended that was not refused: the kind as a code, the tick, and the queue or node.
+fn ended(kind: u32, tick: u32, at: u32) -> OutcomeAnswer
+    ensures { result ≡ record { number = 0; place = 0; kind = kind; tick = tick; at = at } }
 {
-    let run = answer.run;
-    let code = coded(answer);
+    OutcomeAnswer {
+        number: 0,
+        place: 0,
+        kind,
+        tick,
+        at,
+    }
+}
+
+// How a call ended, beside the state that it left.
+fn with_run(code: OutcomeAnswer, run: &Run) -> OutcomeRun
+    ensures { result ≡ record { number = code.number; place = code.place; kind = code.kind; tick = code.tick; at = code.at; run = run.now } }
+{
     OutcomeRun {
         number: code.number,
         place: code.place,
         kind: code.kind,
         tick: code.tick,
         at: code.at,
-        run: run,
+        run: *run,
     }
 }
 
-// Whether an answer is that of a tick which was taken and ended clean.
+// Whether an answer is that of a tick which was taken and ended clean. It reads the record that C has, as the definition of that
+// name does (`tick_stores` of promises/specs/Demand2.antt).
 fn is_clean(code: OutcomeAnswer) -> bool
     ensures { result ≡ is_clean code }
 {
     code.number == 0 && code.kind == 0
-}
-
-// The code of an outcome.
-fn kind_of(outcome: Outcome) -> u32
-    ensures { result ≡ kind_of outcome }
-{
-    match outcome {
-        Outcome::Clean => 0,
-        Outcome::Overflowed { .. } => 1,
-        Outcome::NoDeadline { .. } => 2,
-    }
-}
-
-// The tick of an outcome, 0 where it has none.
-fn tick_of(outcome: Outcome) -> u32
-    ensures { result ≡ tick_of outcome }
-{
-    match outcome {
-        Outcome::Clean => 0,
-        Outcome::Overflowed { tick, .. } => tick,
-        Outcome::NoDeadline { tick, .. } => tick,
-    }
-}
-
-// The queue or the node of an outcome, 0 where it has none.
-fn at_of(outcome: Outcome) -> u32
-    ensures { result ≡ at_of outcome }
-{
-    match outcome {
-        Outcome::Clean => 0,
-        Outcome::Overflowed { queue, .. } => queue,
-        Outcome::NoDeadline { node, .. } => node,
-    }
-}
-
-// A recording answer as C has it, without its state and its list.
-fn rec_coded(recorded: RecordAnswer) -> OutcomeAnswer
-    ensures { result ≡ rec_coded recorded }
-{
-    let outcome = recorded.outcome;
-    OutcomeAnswer {
-        number: recorded.number,
-        place: recorded.place,
-        kind: rec_kind_of(outcome),
-        tick: rec_tick_of(outcome),
-        at: rec_at_of(outcome),
-    }
-}
-
-// A recording answer as C has it, with its state and its list; inlined for the same reason.
-#[inline(always)]
-fn rec_flattened(answer: RecordAnswer) -> OutcomeRecording
-    ensures { result ≡ rec_flat answer }
-{
-    let code = rec_coded(answer);
-    OutcomeRecording {
-        number: code.number,
-        place: code.place,
-        kind: code.kind,
-        tick: code.tick,
-        at: code.at,
-        run: answer.run,
-        losses: answer.losses,
-    }
 }
 
 // Whether an answer is that of a recording tick which was taken and went on from the source's step: 13, and a full list at queue
@@ -295,37 +309,4 @@ fn rec_grows(before: u32, after: u32) -> bool
     ensures { result ≡ rec_grows before after }
 {
     before != after
-}
-
-// The code of a recording outcome.
-fn rec_kind_of(outcome: RecordOutcome) -> u32
-    ensures { result ≡ rec_kind_of outcome }
-{
-    match outcome {
-        RecordOutcome::Clean => 0,
-        RecordOutcome::NoDeadline { .. } => 2,
-        RecordOutcome::ListFull { .. } => 3,
-    }
-}
-
-// The tick of a recording outcome, 0 where it has none.
-fn rec_tick_of(outcome: RecordOutcome) -> u32
-    ensures { result ≡ rec_tick_of outcome }
-{
-    match outcome {
-        RecordOutcome::Clean => 0,
-        RecordOutcome::NoDeadline { tick, .. } => tick,
-        RecordOutcome::ListFull { tick, .. } => tick,
-    }
-}
-
-// The node or the queue of a recording outcome, 0 where it has none.
-fn rec_at_of(outcome: RecordOutcome) -> u32
-    ensures { result ≡ rec_at_of outcome }
-{
-    match outcome {
-        RecordOutcome::Clean => 0,
-        RecordOutcome::NoDeadline { node, .. } => node,
-        RecordOutcome::ListFull { queue, .. } => queue,
-    }
 }

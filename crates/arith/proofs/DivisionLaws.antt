@@ -3,11 +3,12 @@
 --   ceil_suc                    the same with no minus, at m = k + 1
 --   ceil_above, _least, _below  m * ceil n m is a multiple of m that is at least n, the least such, and less than m above n
 --   ceil_unique                 and ceil n m is the only such number
+--   ceil_quotient               it is n / m, and one more where a remainder is left
 --   ceil_mono, _shift           as for n / m
 --   ceil_zero                   no multiple is needed for 0
 --   ceil_multiple, _between     one more in n is one more in ceil n m where m divides n, and no more elsewhere
 --   ceil_rises                  so where it is one more, n is the multiple
-use Rattle.std.specs.Prelude.{◌≡◌, ◌≢◌, ℕ, zero, suc, ◌+◌, ◌-◌, ◌*◌, ◌/◌, ◌≤◌, ◌<◌}
+use Rattle.std.specs.Prelude.{◌≡◌, refl, ◌≢◌, ℕ, zero, suc, ◌+◌, ◌-◌, ◌*◌, ◌/◌, ◌%◌, ◌≤◌, ◌<◌, min}
 use Rattle.std.proofs.Common.{sym, ap, subst, zero-lt-suc, div-lt_iff_lt-mul, arith}
 use Rattle.std.specs.Int.{◌∣◌}
 use Rattle.std.proofs.Math.Nat.{mul-div_cancel', dvd-mul_right, div-zero}
@@ -34,6 +35,13 @@ ceil_below n m h = omega (arith, floor_below (n + (m - 1)) m)
 pub ceil_unique : (n m q : ℕ) → n ≤ m * q → m * q < n + m → ceil n m ≡ q
 unfolding ceil
 ceil_unique n m q lo hi = floor_unique (n + (m - 1)) m q (omega arith) (omega arith)
+
+pub ceil_quotient : (n m : ℕ) → 0 < m → ceil n m ≡ n / m + min 1 (n % m)
+ceil_quotient n m h = by (n % m) refl
+  where
+    by : (r : ℕ) → n % m ≡ r → ceil n m ≡ n / m + min 1 r
+    by zero e = ceil_unique n m (n / m + min 1 0) (omega arith) (omega arith)
+    by (suc r) e = let one : min 1 (suc r) ≡ 1 = omega arith in rw one (ceil_unique n m (n / m + 1) (omega arith) (omega arith))
 
 pub ceil_mono : (a b m : ℕ) → a ≤ b → ceil a m ≤ ceil b m
 unfolding ceil

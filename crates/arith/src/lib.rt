@@ -2,10 +2,10 @@
 // that other crates cite are in specs/.
 #![tactic(auto)]
 
-ghost use Rattle.std.specs.Prelude.{◌≡◌, ◌/◌, min};
+ghost use Rattle.std.specs.Prelude.{◌≡◌, ◌/◌};
 ghost use Rattle.arith.specs.Gcd.{gcd};
 ghost use Rattle.arith.specs.Division.{Divisor};
-ghost use Rattle.arith.specs.Binary.{OddPart, distance};
+ghost use Rattle.arith.specs.Binary.{OddPart};
 
 // The greatest number that divides both `a` and `b`; where one of them is 0, the other. The twos that both have are left out and
 // put back at the end; of odd numbers, the lesser and the odd part of their distance have the same gcd.
@@ -18,12 +18,12 @@ pub fn gcd(a: u32, b: u32) -> u32
     if b == 0 {
         return a;
     }
-    let twos = lesser(u32::trailing_zeros(a), u32::trailing_zeros(b));
+    let twos = a.trailing_zeros().min(b.trailing_zeros());
     let mut x = odd_part(a);
     let mut y = odd_part(b);
     while x != y {
-        let apart = distance(x, y);
-        x = lesser(x, y);
+        let apart = x.abs_diff(y);
+        x = x.min(y);
         y = odd_part(apart);
     }
     x << twos
@@ -34,21 +34,7 @@ fn odd_part(n: u32) -> u32
     requires { Divisor n }
     ensures { OddPart n result }
 {
-    n >> u32::trailing_zeros(n)
-}
-
-// The lesser of two numbers.
-fn lesser(x: u32, y: u32) -> u32
-    ensures { result ≡ min x y }
-{
-    if x < y { x } else { y }
-}
-
-// How far two numbers are apart.
-fn distance(x: u32, y: u32) -> u32
-    ensures { result ≡ distance x y }
-{
-    if x < y { y - x } else { x - y }
+    n >> n.trailing_zeros()
 }
 
 // `n` over `d`, rounded down. A gcd is 1 more often than not, and a comparison is cheaper than a division.

@@ -1,6 +1,6 @@
 // For each call that C has a function that makes it (`names` has those that Rattle has): every argument is handed on as it is, and
 // the proof knows of the call its contract alone. So a call whose code and contract both fix an argument, or whose contract
-// names another definition, is refused here.
+// names another definition, is refused here. What these calls answer is C's record, whose number says whether they refused.
 #![tactic(auto)]
 
 pub mod names;
@@ -28,23 +28,22 @@ use ardenquill::{
 
 // A fresh start of a chain, and then a manual firing of each node in turn; the first refusal ends it, with the state as it
 // then was.
+#[tactic(auto, using(crate::proofs::Steps::replay_start, crate::proofs::Steps::replay_next, crate::proofs::Steps::replay_end, crate::specs::Replayed::replayed, promises::specs::Replay::stopped))]
 pub fn replay(chain: Chain, nodes: &[u32]) -> RunAnswer
     ensures { Replayed chain nodes.now result }
 {
     let mut answer = ardenquill::ardenquill_fresh(chain);
-    let mut i = 0;
-    while i < nodes.len() {
+    for node in nodes {
         if answer.number != 0 {
             return answer;
         }
-        let run = answer.run;
-        answer = ardenquill::ardenquill_fire(chain, run, nodes[i]);
-        i += 1;
+        answer = ardenquill::ardenquill_fire(chain, answer.run, *node);
     }
     answer
 }
 
 // Writes a chain into the lent bytes and reads it from there again; or the writer's refusal, with an empty chain.
+#[tactic(auto, using(crate::specs::ReadBack::back_refused, crate::specs::ReadBack::back_read))]
 pub fn read_back(chain: Chain, out: &mut [u8]) -> ChainAnswer
     ensures { ReadBack chain out.old out.new result }
 {
@@ -61,6 +60,7 @@ pub fn read_back(chain: Chain, out: &mut [u8]) -> ChainAnswer
 }
 
 // A deadline run as C is answered it.
+#[tactic(auto, using(crate::specs::Ran::ran_so))]
 pub fn run(chain: Chain, ticks: u32) -> OutcomeRun
     ensures { Ran chain ticks result }
 {

@@ -22,9 +22,10 @@ use Rattle.chain.specs.Refusals.{silent_as, Silents, Numbered, refused, fine, Si
 use Rattle.chain.proofs.RefusalsLaws.{exact_at}
 use Rattle.chain.specs.Refusals.{first_is, Lowest, lowest_is, Only, only_test, only_map, only_tab, test_exact, test_silent}
 use Rattle.chain.specs.Record.{row_of}
-use Rattle.chain.specs.declared.Refusal.{Refusal}
+use Rattle.chain.specs.Refusal.{Refusal}
 use Rattle.chain.specs.declared.Chain.{Chain}
-use Rattle.chain.specs.Checks.{Field, field, row_fields, fields, count_check, out_of_range, range_check, overdrawn, order_check, record_range, chain_checks, chain_refusal, field_exact, field_silent, field_at, FirstOut, FirstOver, chain_numbers}
+use Rattle.chain.specs.Checks.{Field, field, row_fields, fields, count_check, out_of_range, range_check, overdrawn, order_check}
+use Rattle.chain.specs.Checks.{record_range, chain_checks, chain_refusal, field_exact, field_silent, field_at, FirstOut, FirstOver, chain_numbers}
 
 -- field k of a row is the row's word k, and stands 4 * k bytes behind where the row does
 pub row_values : (q : Queue) (at : ℕ) → map (λ (f : Field). f.value) (row_fields q at) ≡ row q

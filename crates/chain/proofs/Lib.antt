@@ -1,4 +1,4 @@
-pub mod Gather
+pub mod Passing
 pub mod ChecksLaws
 pub mod FaultsLaws
 pub mod RefusalsLaws

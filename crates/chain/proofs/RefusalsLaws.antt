@@ -9,8 +9,9 @@ use Rattle.std.proofs.Common.{◌∙◌, inr, ⊎_elim, not-suc-le-zero, arith, 
 use Rattle.std.proofs.Math.Logic.{true-and}
 use mathlib.Core.List.{List, [], ◌∷◌}
 use Prim.Native.Nat.{ℕ, zero, suc, ◌<◌}
-use Rattle.chain.specs.declared.Refusal.{Refusal}
-use Rattle.chain.specs.Refusals.{refused, fine, first, Silents, number_of, says_some, or_says, says_last, Numbered, absent, distinct, elsewhere, stands_once, Others, both, others, others_at, numbered_length, said_earlier}
+use Rattle.chain.specs.Refusal.{Refusal}
+use Rattle.chain.specs.Refusals.{refused, fine, first, Silents, number_of, says_some, or_says, says_last}
+use Rattle.chain.specs.Refusals.{Numbered, absent, distinct, elsewhere, stands_once, Others, both, others, others_at, numbered_length, said_earlier}
 
 pub stands_once_figure : let Ns : List ℕ = 1 ∷ 2 ∷ 1 ∷ 3 ∷ [] in (stands_once 0 Ns ≡ false) × ((stands_once 1 Ns ≡ true) × ((stands_once 2 Ns ≡ false) × (stands_once 3 Ns ≡ true)))
 stands_once_figure = (refl, (refl, (refl, refl)))

@@ -17,7 +17,7 @@ use Rattle.chain.specs.Record.{row_of, work_of}
 use Rattle.chain.specs.Checks.{Field, field, ticks, row_fields, fields, out_of_range, overdrawn, count_check, range_check}
 use Rattle.chain.specs.Checks.{order_check, chain_checks, chain_refusal, field_silent}
 use Rattle.chain.proofs.ChecksLaws.{count_silent, row_silent}
-use Rattle.chain.specs.declared.Refusal.{Refusal}
+use Rattle.chain.specs.Refusal.{Refusal}
 use Rattle.chain.specs.declared.Chain.{Chain}
 use Rattle.chain.specs.Sound.{row_range, node_range, SoundRow, Sound}
 

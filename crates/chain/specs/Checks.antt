@@ -24,7 +24,7 @@ use Rattle.chain.specs.Tests.{outside, Out, In, outside_true, outside_false}
 use Rattle.chain.specs.Refusals.{refused, test, first, Silent}
 use Rattle.chain.specs.Refusals.{test_exact, test_silent}
 use Rattle.chain.specs.Record.{row_of, work_of}
-use Rattle.chain.specs.declared.Refusal.{Refusal}
+use Rattle.chain.specs.Refusal.{Refusal}
 use Rattle.chain.specs.declared.Chain.{Chain}
 
 -- a word of the file, with its range and its byte offset

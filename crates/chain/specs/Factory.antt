@@ -16,7 +16,7 @@ use Rattle.words.specs.declared.Queue.{Queue}
 use Rattle.chain.specs.Tests.{below_true}
 use Rattle.chain.specs.Refusals.{refused, test, first, test_exact, says_last}
 use Rattle.chain.specs.Record.{empty_chain, trimmed, answered, trimmed_answer}
-use Rattle.chain.specs.declared.Refusal.{Refusal}
+use Rattle.chain.specs.Refusal.{Refusal}
 use Rattle.chain.specs.declared.Chain.{Chain}
 use Rattle.chain.specs.declared.ChainAnswer.{ChainAnswer}
 

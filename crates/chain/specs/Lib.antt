@@ -1,6 +1,8 @@
+pub mod Refusal
 pub mod Tests
 pub mod Refusals
 pub mod Record
+pub mod Said
 pub mod Checks
 pub mod Sound
 pub mod Faults

@@ -38,7 +38,7 @@ use Prim.Native.Nat.{ℕ, zero, suc, ◌<◌}
 use Rattle.std.proofs.Math.Decide.{ℕ_discrete}
 use Rattle.words.specs.Flat.{flat}
 use Rattle.words.specs.Table.{tab, tab_last, length_tab, tab_at}
-use Rattle.chain.specs.declared.Refusal.{Refusal}
+use Rattle.chain.specs.Refusal.{Refusal}
 
 -- refusal number N with place L
 abbrev pub refused : ℕ → ℕ → Refusal

@@ -7,7 +7,7 @@ use Rattle.chain.specs.Tests.{In}
 use Rattle.chain.specs.Refusals.{first}
 use Rattle.chain.specs.Record.{row_of, work_of}
 use Rattle.chain.specs.Checks.{ticks, row_fields, out_of_range}
-use Rattle.chain.specs.declared.Refusal.{Refusal}
+use Rattle.chain.specs.Refusal.{Refusal}
 use Rattle.chain.specs.declared.Chain.{Chain}
 
 -- 4 of one queue row that stands at `at`, and of one node row

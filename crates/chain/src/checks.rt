@@ -1,72 +1,58 @@
-// The checks of a chain's own numbers, 2, 4 and 5, which a file and a record share. A check answers the first refusal
-// of its kind, or none; `check_chain` is what every call that is handed a record runs first.
-ghost use Rattle.std.specs.Prelude.{◌≡◌, [], ◌∷◌};
+// The checks of a chain's own numbers, 2, 4 and 5, which a file and a record share: each passes, or refuses with its reason
+// and place. `check_chain` is what every call that is handed a record runs first.
+ghost use Rattle.std.specs.Prelude.{◌≡◌, ◌↔◌, IsTrue, [], ◌∷◌, ◌+◌, ◌*◌};
+ghost use Rattle.words.specs.Table.{tab};
 ghost use Rattle.chain.specs.Tests.{outside};
-ghost use Rattle.chain.specs.Refusals.{test, or_else, first};
+ghost use Rattle.chain.specs.Refusals.{test, first};
+ghost use Rattle.chain.specs.Said.{code, said};
 ghost use Rattle.chain.specs.Record.{row_of, work_of};
-ghost use Rattle.chain.specs.Checks.{count_check, field, out_of_range, record_range, record_order, chain_refusal};
-ghost use Rattle.chain.specs.Sound.{row_range};
-ghost use Rattle.chain.specs.Faults.{fine_row, with_row, faults_of, settled, Few, FineRows, TablesAt, RowPlace};
+ghost use Rattle.chain.specs.Checks.{count_check, field, out_of_range, overdrawn, range_check, order_check, chain_refusal};
+ghost use Rattle.chain.specs.Sound.{row_range, node_range};
+ghost use Rattle.chain.specs.Faults.{fine_row, AllFine, Few, TablesAt, RowsAt, RowPlace};
 
-use crate::{Chain, Refusal};
+use crate::{Chain, Reason, Refused};
 use words::Queue;
 
-// Not refused.
-pub const FINE: Refusal = Refusal {
-    number: 0,
-    place: 0,
-};
-
-// What is refused of the rows looked at so far: the first fault of a queue row's fields, of a node row, and of the order.
-#[derive(Clone, Copy)]
-pub struct Faults {
-    pub rows: Refusal,
-    pub nodes: Refusal,
-    pub order: Refusal,
-}
-
-// Nothing refused of any row.
-pub const NO_FAULTS: Faults = Faults {
-    rows: FINE,
-    nodes: FINE,
-    order: FINE,
-};
-
-// 2, 4 and 5 of a chain that was handed in as a record, with places as in its packed file.
-pub fn check_chain(chain: Chain) -> Refusal
-    ensures { result ≡ chain_refusal chain }
+// 2, 4 and 5 of a chain that was handed in as a record, with places as in its packed file. Rows that are all fine have no
+// fault, so a sound chain pays for no check of theirs.
+#[tactic(auto, using(crate::proofs::Passing::passing, crate::proofs::FaultsLaws::fine_rows), unfolding(crate::specs::Checks::chain_refusal))]
+pub fn check_chain(chain: Chain) -> Result<(), Refused>
+    ensures { said result ≡ chain_refusal chain }
 {
-    let count = count_check(chain.n);
-    if count.number != 0 {
-        return count;
+    count_check(chain.n)?;
+    if are_fine(&chain) {
+        return check_period(chain.period);
     }
-    let fine = fine_rows(chain);
-    if fine < chain.n as usize {
-        return refused_rows(chain, fine);
-    }
-    settle(chain.period, NO_FAULTS)
+    check_rows(&chain, 20, 20 + 20 * chain.n)
 }
 
 // 2: how many queues there are.
-pub fn count_check(n: u32) -> Refusal
-    ensures { result ≡ count_check n }
+pub fn count_check(n: u32) -> Result<(), Refused>
+    ensures { said result ≡ count_check n }
 {
-    test(2, 0, outside(n, 1, 16))
+    test(Reason::QueueCount, 0, is_outside(n, 1, 16))
 }
 
-// 4, then 5, of a chain of this period whose rows have these faults.
-pub fn settle(period: u32, faults: Faults) -> Refusal
-    ensures { result ≡ settled period faults }
+// 4 of the period.
+pub fn check_period(period: u32) -> Result<(), Refused>
+    ensures { said result ≡ out_of_range (field 4 1 1000000 period) }
 {
-    let rows = faults.rows;
-    let nodes = faults.nodes;
-    let order = faults.order;
-    let fields = or_else(field_check(4, 1, 1000000, period), or_else(rows, nodes));
-    or_else(fields, order)
+    check_field(4, 1, 1000000, period)
 }
 
-// Whether nothing is refused of a queue row and its node row: a few plain comparisons, by which a loop passes a sound row
-// without making its faults.
+// 4, then 5, of a chain with its tables at `q` and `w`.
+#[tactic(auto, using(crate::proofs::Passing::passing, crate::proofs::FaultsLaws::rows_apart))]
+pub fn check_rows(chain: &Chain, q: u32, w: u32) -> Result<(), Refused>
+    requires { TablesAt chain.now.n q w }
+    ensures { said result ≡ first (range_check chain.now q w ∷ order_check chain.now q ∷ []) }
+{
+    check_period(chain.period)?;
+    check_queues(chain, q)?;
+    check_nodes(chain, w)?;
+    check_order(chain, q)
+}
+
+// Whether nothing is refused of a queue row and its node row: a few plain comparisons, by which a loop passes a sound row.
 pub fn is_fine(row: Queue, e: u32) -> bool
     ensures { result ≡ fine_row row e }
 {
@@ -81,128 +67,92 @@ pub fn is_fine(row: Queue, e: u32) -> bool
         & (e <= 1000000)
 }
 
-// The faults of a record's rows, of which the first `fine` are fine, with its tables at `q` and `w`.
-pub fn chain_faults(chain: Chain, fine: usize, q: u32, w: u32) -> Faults
-    requires { FineRows chain fine × TablesAt chain.n q w }
-    ensures { result ≡ faults_of (row_of chain) (work_of chain) q w chain.n }
-{
-    let n = chain.n as usize;
-    let k = fine as u32;
-    let mut faults = NO_FAULTS;
-    let mut at = q + 20 * k;
-    let mut to = w + 4 * k;
-    let mut i = fine;
-    while i < n {
-        let row = chain.queues[i];
-        let e = chain.work[i];
-        if !is_fine(row, e) {
-            faults = with_row(faults, row, at, e, to);
-        }
-        i += 1;
-        at += 20;
-        to += 4;
-    }
-    faults
-}
-
-// The refusal of a test that fails, or none.
-pub fn test(number: u32, place: u32, wrong: bool) -> Refusal
-    ensures { result ≡ test number place wrong }
+// What a test that fails refuses.
+pub fn test(reason: Reason, place: u32, wrong: bool) -> Result<(), Refused>
+    ensures { said result ≡ test (code reason) place wrong }
 {
     if wrong {
-        Refusal {
-            number: number,
-            place: place,
-        }
-    } else {
-        FINE
+        return Err(Refused { reason, place });
     }
+    Ok(())
 }
 
-// How many rows of a record, from the first on, are fine: a loop that carries no faults, so that a sound chain pays for none.
-fn fine_rows(chain: Chain) -> usize
-    requires { Few chain.n }
-    ensures { FineRows chain result }
+// Whether every row of a record is fine.
+fn are_fine(chain: &Chain) -> bool
+    requires { Few chain.now.n }
+    ensures { IsTrue result ↔ AllFine (row_of chain.now) (work_of chain.now) chain.now.n }
 {
-    let n = chain.n as usize;
-    let mut i = 0;
-    while i < n {
+    for i in 0..chain.n as usize {
         if !is_fine(chain.queues[i], chain.work[i]) {
-            return i;
+            return false;
         }
-        i += 1;
     }
-    i
+    true
 }
 
-// 4, then 5, of a record of whose rows the first `fine` are fine, with places as in its packed file. It is a function of its own
-// so that the chain is copied for `chain_faults` only where something is refused.
-fn refused_rows(chain: Chain, fine: usize) -> Refusal
-    requires { FineRows chain fine }
-    ensures { result ≡ first (record_range chain ∷ record_order chain ∷ []) }
+// 4 of the queue rows of a chain, whose table stands at `q`.
+#[tactic(auto, using(crate::proofs::Passing::passing))]
+fn check_queues(chain: &Chain, q: u32) -> Result<(), Refused>
+    requires { RowsAt chain.now.n 20 q }
+    ensures { said result ≡ first (tab chain.now.n (λ i. row_range (row_of chain.now i) (q + 20 * i))) }
 {
-    let faults = chain_faults(chain, fine, 20, 20 + 20 * chain.n);
-    settle(chain.period, faults)
+    for i in 0..chain.n {
+        check_queue(chain.queues[i as usize], q + 20 * i)?;
+    }
+    Ok(())
 }
 
-// The faults with those of one more queue row, which stands at `at`, and of its node row, which stands at `to`.
-fn with_row(faults: Faults, row: Queue, at: u32, e: u32, to: u32) -> Faults
-    requires { RowPlace at }
-    ensures { result ≡ with_row faults row at e to }
+// 4 of the node rows of a chain, whose table stands at `w`.
+#[tactic(auto, using(crate::proofs::Passing::passing))]
+fn check_nodes(chain: &Chain, w: u32) -> Result<(), Refused>
+    requires { RowsAt chain.now.n 4 w }
+    ensures { said result ≡ first (tab chain.now.n (λ i. node_range (work_of chain.now i) (w + 4 * i))) }
 {
-    let rows = faults.rows;
-    let nodes = faults.nodes;
-    let order = faults.order;
-    Faults {
-        rows: or_else(rows, row_range(row, at)),
-        nodes: or_else(nodes, field_check(to, 1, 1000000, e)),
-        order: or_else(order, test(5, at + 8, row.threshold < row.consume)),
+    for i in 0..chain.n {
+        check_field(w + 4 * i, 1, 1000000, chain.work[i as usize])?;
     }
+    Ok(())
+}
+
+// 5 of a chain, whose queue table stands at `q`.
+#[tactic(auto, using(crate::proofs::Passing::passing), unfolding(crate::specs::Checks::order_check))]
+fn check_order(chain: &Chain, q: u32) -> Result<(), Refused>
+    requires { RowsAt chain.now.n 20 q }
+    ensures { said result ≡ order_check chain.now q }
+{
+    for i in 0..chain.n {
+        let row = chain.queues[i as usize];
+        test(
+            Reason::RowOrder,
+            q + 20 * i + 8,
+            row.threshold < row.consume,
+        )?;
+    }
+    Ok(())
 }
 
 // 4 of one queue row that stands at `at`, in field order.
-fn row_range(row: Queue, at: u32) -> Refusal
+#[tactic(auto, using(crate::proofs::Passing::passing), unfolding(crate::specs::Sound::row_range, crate::specs::Checks::row_fields))]
+fn check_queue(row: Queue, at: u32) -> Result<(), Refused>
     requires { RowPlace at }
-    ensures { result ≡ row_range row at }
+    ensures { said result ≡ row_range row at }
 {
-    let produce = field_check(at, 1, 65535, row.produce);
-    if produce.number != 0 {
-        return produce;
-    }
-    let threshold = field_check(at + 4, 1, 65535, row.threshold);
-    if threshold.number != 0 {
-        return threshold;
-    }
-    let consume = field_check(at + 8, 1, 65535, row.consume);
-    if consume.number != 0 {
-        return consume;
-    }
-    let capacity = field_check(at + 12, 0, 1000000, row.capacity);
-    if capacity.number != 0 {
-        return capacity;
-    }
-    field_check(at + 16, 0, 0, row.reserved)
+    check_field(at, 1, 65535, row.produce)?;
+    check_field(at + 4, 1, 65535, row.threshold)?;
+    check_field(at + 8, 1, 65535, row.consume)?;
+    check_field(at + 12, 0, 1000000, row.capacity)?;
+    check_field(at + 16, 0, 0, row.reserved)
 }
 
-// 4 of one word: the refusal with the word's place where it is out of range.
-fn field_check(place: u32, least: u32, most: u32, v: u32) -> Refusal
-    ensures { result ≡ out_of_range (field place least most v) }
+// 4 of one word: it is refused at its place where it is out of range.
+fn check_field(place: u32, least: u32, most: u32, v: u32) -> Result<(), Refused>
+    ensures { said result ≡ out_of_range (field place least most v) }
 {
-    test(4, place, outside(v, least, most))
-}
-
-// What the first of two checks says, or the other where it is silent.
-fn or_else(a: Refusal, b: Refusal) -> Refusal
-    ensures { result ≡ or_else a b }
-{
-    if a.number != 0 {
-        return a;
-    }
-    b
+    test(Reason::FieldRange, place, is_outside(v, least, most))
 }
 
 // Whether a number is below the least or above the most.
-fn outside(v: u32, least: u32, most: u32) -> bool
+fn is_outside(v: u32, least: u32, most: u32) -> bool
     ensures { result ≡ outside least most v }
 {
     v < least || most < v

@@ -1,27 +1,20 @@
-// The chain record: the refusal, the checks 2, 4 and 5 of a chain's own numbers, and the factory chains.
+// The chain record: the refusals, the checks 2, 4 and 5 of a chain's own numbers, and the factory chains.
 #![tactic(auto)]
 
 ghost use Rattle.std.specs.Prelude.{◌≡◌};
-ghost use Rattle.chain.specs.Record.{answered};
+ghost use Rattle.chain.specs.Said.{chain_said};
 
 mod checks;
+mod reasons;
 mod stock;
 
-pub use checks::{
-    FINE, Faults, NO_FAULTS, chain_faults, check_chain, count_check, is_fine, settle, test,
-};
+pub use checks::{check_chain, check_period, check_rows, count_check, is_fine, test};
+pub use reasons::{Reason, Refused};
 pub use stock::factory;
 pub use words::Queue;
 
-// A refusal number of 01 with its place; number 0 and place 0 where nothing is refused.
-#[repr(C)]
-#[derive(Clone, Copy)]
-pub struct Refusal {
-    pub number: u32,
-    pub place: u32,
-}
-
 // One chain: n queues, the source's period, and for each queue its row and the execution time of the node it feeds.
+// C has this layout, so the rows and the times stay two arrays beside their number.
 #[repr(C)]
 #[derive(Clone, Copy)]
 pub struct Chain {
@@ -31,7 +24,7 @@ pub struct Chain {
     pub work: [u32; 16],
 }
 
-// A chain, or the refusal that stands in its place.
+// A chain, or the refusal that stands in its place. C has this layout; code has a `Result<Chain, Refused>`.
 #[repr(C)]
 #[derive(Clone, Copy)]
 pub struct ChainAnswer {
@@ -48,20 +41,21 @@ pub const EMPTY: Chain = Chain {
     work: [0; 16],
 };
 
-// The answer of a call that makes a chain: the chain, or none where it is refused.
-pub fn answer(refusal: Refusal, chain: Chain) -> ChainAnswer
-    ensures { result ≡ answered refusal chain }
-{
-    if refusal.number != 0 {
-        return ChainAnswer {
-            number: refusal.number,
-            place: refusal.place,
-            chain: EMPTY,
-        };
-    }
-    ChainAnswer {
-        number: refusal.number,
-        place: refusal.place,
-        chain: chain,
+impl From<Result<Chain, Refused>> for ChainAnswer {
+    ghost from_gives = { λ r a. a ≡ chain_said r };
+
+    fn from(outcome: Result<Chain, Refused>) -> ChainAnswer {
+        match outcome {
+            Ok(chain) => ChainAnswer {
+                number: 0,
+                place: 0,
+                chain,
+            },
+            Err(refused) => ChainAnswer {
+                number: refused.number(),
+                place: refused.place,
+                chain: EMPTY,
+            },
+        }
     }
 }

@@ -11,7 +11,7 @@ use Rattle.chain.specs.Checks.{count_check}
 use Rattle.chain.proofs.ChecksLaws.{count_silent}
 use Rattle.chain.specs.Sound.{Sound}
 use Rattle.chain.proofs.SoundLaws.{sound_is}
-use Rattle.chain.specs.declared.Refusal.{Refusal}
+use Rattle.chain.specs.Refusal.{Refusal}
 use Rattle.chainfile.specs.File.{count_of, queues_at, nodes_at, chain_of, length_check, bad_table, offset_tests}
 use Rattle.chainfile.specs.File.{offset_check, file_offsets, file_range, file_order, read_checks, header_refusal}
 use Rattle.chainfile.specs.File.{read_refusal, length_silent, GoodTable}

@@ -14,7 +14,8 @@ use Rattle.chain.proofs.RefusalsLaws.{exact_at}
 use Rattle.chain.specs.Tests.{Out, or_true, or_false, and_true, sum_iff, below_true, below_false, differ_true, differ_false}
 use Rattle.chain.specs.Checks.{count_check, fields, FirstOut, FirstOver}
 use Rattle.chain.proofs.ChecksLaws.{count_exact, range_exact, order_exact, count_only, range_only, order_only}
-use Rattle.chainfile.specs.File.{count_of, queues_at, nodes_at, chain_of, length_check, bad_table, overlap, offset_check, file_offsets, file_range, read_checks, read_refusal, BadLength, length_exact, length_only, BadTable, GoodTable, Shared, BadTables, read_numbers}
+use Rattle.chainfile.specs.File.{count_of, queues_at, nodes_at, chain_of, length_check, bad_table, overlap, offset_check, file_offsets, file_range}
+use Rattle.chainfile.specs.File.{read_checks, read_refusal, BadLength, length_exact, length_only, BadTable, GoodTable, Shared, BadTables, read_numbers}
 
 pub bad_table_law : (len at end : ℕ) → (bad_table len at end ≡ true) ↔ BadTable len at end
 bad_table_law len at end = or_true (differ_true (at % 4) 0) (or_true (below_true at 20) (below_true len end))

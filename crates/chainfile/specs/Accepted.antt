@@ -6,16 +6,15 @@
 -- What is named here and not declared stands in proofs/AcceptedLaws.antt.
 use Rattle.std.proofs.Math.Logic.Iff
 use Rattle.std.specs.Prelude.{◌≡◌, ◌↔◌, List, [], ◌∷◌, ℕ, ◌+◌, ◌*◌, ◌≤◌, length}
-use Rattle.std.proofs.Common.{arith}
-use Rattle.chain.specs.Tests.{In, below_false}
-use Rattle.chain.specs.Refusals.{fine, Silent, Silents, first_fine, first_silent, test_silent}
+use Rattle.chain.specs.Tests.{In}
+use Rattle.chain.specs.Refusals.{fine, Silent, Silents, first_fine, first_silent}
 use Rattle.chain.specs.Checks.{count_check, record_range, record_order}
 use Rattle.chain.specs.Sound.{Sound}
 use Rattle.chain.proofs.SoundLaws.{sound_is}
 use Rattle.chain.specs.declared.Chain.{Chain}
 use Rattle.chainfile.specs.File.{count_of, queues_at, nodes_at, total_of, chain_of}
 use Rattle.chainfile.specs.File.{GoodTable, Shared}
-use Rattle.chainfile.specs.Packed.{packed_length, room_check, write_checks, write_refusal}
+use Rattle.chainfile.specs.Packed.{packed_length, room_silent, write_checks, write_refusal}
 
 -- what 1, 2 and 3 leave to be known: the count, the length, the total word and where the tables stand
 pub record Placed (f : List ℕ) : Type 0 where
@@ -38,14 +37,11 @@ write_accepts c room = Iff.trans (first_silent (write_checks c room)) (out, back
     own : Silents (count_check c.n ∷ record_range c ∷ record_order c ∷ []) ↔ Sound c
     own = sound_is c 20 (20 + 20 * c.n)
 
-    fits : Silent (room_check (packed_length c.n) room) ↔ (packed_length c.n ≤ room)
-    fits = Iff.trans (test_silent 10 _ (λ e. omega arith) _) (below_false room (packed_length c.n))
-
     out : Silents (write_checks c room) → Sound c × (packed_length c.n ≤ room)
-    out h = (own.0 (h.0, (h.1.0, (h.1.1.0, tt))), fits.0 h.1.1.1.0)
+    out h = (own.0 (h.0, (h.1.0, (h.1.1.0, tt))), (room_silent (packed_length c.n) room).0 h.1.1.1.0)
 
     back : Sound c × (packed_length c.n ≤ room) → Silents (write_checks c room)
-    back h = let s = own.1 h.0 in (s.0, (s.1.0, (s.1.1.0, (fits.1 h.1, tt))))
+    back h = let s = own.1 h.0 in (s.0, (s.1.0, (s.1.1.0, ((room_silent (packed_length c.n) room).1 h.1, tt))))
 
 pub write_fine : (c : Chain) (room : ℕ) → Silent (write_refusal c room) → write_refusal c room ≡ fine
 unfolding write_refusal

@@ -31,7 +31,7 @@ use Rattle.chain.specs.Refusals.{refused, test, first, Silent, Only, only_test, 
 use Rattle.chain.specs.Record.{answered}
 use Rattle.chain.specs.Tests.{outside, Out, In, outside_true, outside_false, or_true, or_false, differ_true, differ_false}
 use Rattle.chain.specs.Checks.{count_check, range_check, order_check}
-use Rattle.chain.specs.declared.Refusal.{Refusal}
+use Rattle.chain.specs.Refusal.{Refusal}
 use Rattle.chain.specs.declared.Chain.{Chain}
 use Rattle.chain.specs.declared.ChainAnswer.{ChainAnswer}
 use Rattle.chainfile.specs.declared.reader.Header.{Header}

@@ -9,10 +9,13 @@
 --   write_refusal c room  what the writer refuses c with, the lent output being `room` bytes long
 --   not_written N L, written k
 --                        the answer of a call that refuses to write, and of one that wrote k bytes
+--   length_said r        the answer that a result makes which is a length or an error
+--   length_says, _alike  number and place are what the result says, and no two results have the same answer
 --   Output r t o p a     what a call that writes a text t into lent bytes o answers and leaves there, its refusal being r
 --   output_fine          what it is where nothing is refused
 --   output_within        the length answered never passes the lent bytes
---   room_exact, _only    10 is said exactly under its condition, and no other number is
+--   room_exact, _silent, _enough, _only
+--                        10 is said exactly under its condition, nothing is where there is room, and no other number is
 --   room_last            10 is what the last check of a call says
 --   write_2, write_4, write_5, write_10
 --                        when a chain is refused with each number
@@ -20,21 +23,23 @@
 --                        how long the tables and the file are, and what the file is made of
 --   TableFits, Fits      what the code of the writer asks: few queues, and room
 use Rattle.std.proofs.Math.Logic.Iff
-use Rattle.std.specs.Prelude.{◌≡◌, refl, Bool, true, false, cond, ◌↔◌, List, [], ◌∷◌, ◌++◌, ℕ, ◌+◌, ◌*◌, ◌≤◌, ◌<◌, ltb, eqb, length, drop, get_or, take}
-use Rattle.std.proofs.Common.{sym, ap, ◌∙◌, arith, length-append}
+use Rattle.std.specs.Prelude.{◌≡◌, refl, Bool, true, false, cond, Result, ◌↔◌, List, [], ◌∷◌, ◌++◌, ℕ, ◌+◌, ◌*◌, ◌≤◌, ◌<◌, ltb, eqb, length, drop, get_or, take}
+use Rattle.std.proofs.Common.{Ok, Err, sym, ap, ◌∙◌, arith, le-ltb, length-append}
 use Rattle.std.proofs.Math.Logic.{true-and}
 use Rattle.words.specs.Flat.{flat, flat_length}
 use Rattle.words.specs.Words.{bytes_of}
 use Rattle.words.proofs.WordsLaws.{bytes_append, bytes_length}
 use Rattle.words.specs.Rows.{row}
-use Rattle.chain.specs.Tests.{Out, below_true}
-use Rattle.chain.specs.Refusals.{Silents, Numbered, refused, fine, test, first, or_else, first_append, test_alone, Only, only_test, test_exact, numbered_append}
+use Rattle.chain.specs.Tests.{Out, below_true, below_false}
+use Rattle.chain.specs.Refusals.{Silent, Silents, Numbered, refused, fine, test, first, or_else, first_append, test_alone, Only, only_test, test_exact, test_silent, numbered_append}
 use Rattle.chain.proofs.RefusalsLaws.{exact_at}
 use Rattle.chain.specs.Record.{row_of, work_of}
 use Rattle.chain.specs.Checks.{count_check, chain_checks, range_check, order_check, record_range, record_order, fields}
 use Rattle.chain.specs.Checks.{FirstOut, FirstOver, chain_numbers}
 use Rattle.chain.proofs.ChecksLaws.{count_exact, range_exact, order_exact, chain_numbered}
-use Rattle.chain.specs.declared.Refusal.{Refusal}
+use Rattle.chain.specs.Refusal.{Refusal}
+use Rattle.chain.specs.Said.{code, said, speaks, refusal_alike}
+use Rattle.chain.specs.declared.reasons.Refused.{Refused}
 use Rattle.chain.specs.declared.Chain.{Chain}
 use Rattle.chainfile.specs.declared.LengthAnswer.{LengthAnswer}
 
@@ -81,6 +86,23 @@ not_written N L = record { number = N; place = L; length = 0 }
 abbrev pub written : ℕ → LengthAnswer
 written k = record { number = 0; place = 0; length = k }
 
+-- the answer that a result makes which is a length or an error
+abbrev pub length_said : Result ℕ Refused → LengthAnswer
+length_said (Ok k) = written k
+length_said (Err e) = not_written (code e.reason) e.place
+
+-- number and place are those of what the result says
+pub length_says : (r : Result ℕ Refused) → refused (length_said r).number (length_said r).place ≡ said r
+length_says (Ok k) = refl
+length_says (Err e) = refl
+
+-- equal answers come from equal results
+pub length_alike : (r s : Result ℕ Refused) → length_said r ≡ length_said s → r ≡ s
+length_alike (Ok j) (Ok k) e = ap Ok (ap (λ (x : LengthAnswer). x.length) e)
+length_alike (Ok k) (Err f) e = absurd (speaks f (ap (λ (x : LengthAnswer). x.number) (sym e)))
+length_alike (Err d) (Ok k) e = absurd (speaks d (ap (λ (x : LengthAnswer). x.number) e))
+length_alike (Err d) (Err f) e = ap Err (refusal_alike d f (ap (λ (x : LengthAnswer). refused x.number x.place) e))
+
 -- a call that writes: the answer is the refusal, or the text's length; the lent bytes o become p,
 -- the text first and every byte past it as it was, or all of them as they were where it refuses
 pub record Output (r : Refusal) (t o p : List ℕ) (a : LengthAnswer) : Type 0 where
@@ -101,6 +123,12 @@ output_within {r} {t} {o} {p} {a} w = by (eqb r.number 0) w.answer w.bytes
 
 pub room_exact : (L need room : ℕ) → (room_check need room ≡ refused 10 L) ↔ ((room < need) × (L ≡ need))
 room_exact L need room = Iff.trans (test_exact 10 L need (λ e. omega arith) _) (Iff.and (below_true room need) Iff.rfl)
+
+pub room_silent : (need room : ℕ) → Silent (room_check need room) ↔ (need ≤ room)
+room_silent need room = Iff.trans (test_silent 10 need (λ e. omega arith) _) (below_false room need)
+
+pub room_enough : (need room : ℕ) → need ≤ room → room_check need room ≡ fine
+room_enough need room h = simp (le-ltb _ _ h)
 
 pub room_only : (need room : ℕ) → Only 10 (room_check need room)
 room_only need room = only_test 10 need (ltb room need)

@@ -2,15 +2,16 @@
 #![tactic(auto)]
 
 ghost use Rattle.std.specs.Prelude.{◌≡◌};
-ghost use Rattle.chainfile.specs.Packed.{not_written, written};
+ghost use Rattle.chainfile.specs.Packed.{length_said};
 
 mod reader;
 mod writer;
 
+use chain::Refused;
 pub use reader::read;
 pub use writer::write;
 
-// How many bytes were written, or the refusal.
+// How many bytes were written, or the refusal, as C has it.
 #[repr(C)]
 #[derive(Clone, Copy)]
 pub struct LengthAnswer {
@@ -19,24 +20,21 @@ pub struct LengthAnswer {
     pub length: u64,
 }
 
-// The answer of a call that refuses to write.
-pub fn refused(number: u32, place: u32) -> LengthAnswer
-    ensures { result ≡ not_written number place }
-{
-    LengthAnswer {
-        number: number,
-        place: place,
-        length: 0,
-    }
-}
+impl From<Result<usize, Refused>> for LengthAnswer {
+    ghost from_gives = { λ r a. a ≡ length_said r };
 
-// The answer of a call that wrote.
-pub fn written(length: usize) -> LengthAnswer
-    ensures { result ≡ written length }
-{
-    LengthAnswer {
-        number: 0,
-        place: 0,
-        length: length as u64,
+    fn from(outcome: Result<usize, Refused>) -> LengthAnswer {
+        match outcome {
+            Ok(length) => LengthAnswer {
+                number: 0,
+                place: 0,
+                length: length as u64,
+            },
+            Err(refused) => LengthAnswer {
+                number: refused.number(),
+                place: refused.place,
+                length: 0,
+            },
+        }
     }
 }

@@ -8,7 +8,7 @@ use Rattle.std.proofs.Math.Path.{ap}
 use Rattle.std.proofs.Math.ListN.{length}
 use Rattle.ardenquill.specs.Files.{Output, output_fine, room_check}
 use Rattle.ardenquill.specs.Reports.{report_text, report_refusal, refusal_text, file_refusal, longest_report, longest_refusal, report_written, report_roomy, refusal_room}
-use Rattle.chain.specs.declared.Refusal.{Refusal}
+use Rattle.chain.specs.Refusal.{Refusal}
 use Rattle.chainfile.specs.declared.LengthAnswer.{LengthAnswer}
 use Rattle.chainreport.specs.Printed.{printed, fronted}
 
@@ -35,9 +35,11 @@ module _ (f o : List ℕ) (room : longest_report ≤ length o) {p : List ℕ} {a
         kept k m = simp (ne_eqb k 0 m)
 
     pub prints_refusal : {q : List ℕ} {b : LengthAnswer} → a.number < 2 ^ 32 → a.place < 2 ^ 32
-        → Output (room_check (length (refusal_text a.number a.place)) (length p)) (refusal_text a.number a.place) p q b → take b.length q ≡ printed f
+        → Output (room_check (length (refusal_text a.number a.place)) (length p)) (refusal_text a.number a.place) p q b
+        → (b.number ≡ 0) × (take b.length q ≡ printed f)
     unfolding printed
     prints_refusal hn hl v =
         let long : longest_refusal ≤ length p = omega (arith, ap length untouched) in
         let h = output_fine (refusal_room a.number a.place (length p) hn hl long) v in
-        rw (ne_eqb _ _ (λ z. n (number_same ∙ z)), ← number_same, ← place_same) (fronted p (ap (λ (u : LengthAnswer). u.length) h.0) h.1)
+        let line = fronted p (ap (λ (u : LengthAnswer). u.length) h.0) h.1 in
+        (ap (λ (u : LengthAnswer). u.number) h.0, rw (ne_eqb _ _ (λ z. n (number_same ∙ z)), ← number_same, ← place_same) line)

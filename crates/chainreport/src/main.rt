@@ -3,11 +3,11 @@
 // bytes a contract can name, and `main` hands it the system's.
 #![tactic(auto)]
 
-ghost use Rattle.std.specs.Prelude.{◌≤◌, ◌<◌, length, take, IfOk, IfSome, OnErr, OnOk};
+ghost use Rattle.std.specs.Prelude.{◌≡◌, ◌≤◌, ◌<◌, length, take, IfOk, IfSome, OnErr, OnOk};
 ghost use Rattle.std.specs.Io.KnownBytes.{Appends};
 ghost use Rattle.ardenquill.specs.Reports.{longest_report};
 ghost use Rattle.chainreport.specs.Printed.{printed};
-ghost use Rattle.chainreport.specs.Input.{longest_file, IsPrefixLen, Holds, LosesNothing, Answers};
+ghost use Rattle.chainreport.specs.Input.{longest_file, IsPrefixLen, Holds, LosesNothing};
 
 use std::io;
 use std::io::{Read, Write};
@@ -24,12 +24,13 @@ fn respond<R: Read, W: Write>(input: &mut R, output: &mut W) -> io::Result<()>
     let mut file = [0u8; 4097];
     let n = read(input, &mut file)?;
     let mut text = [0u8; ardenquill::LONGEST_REPORT];
-    let end = answer(&file, n, &mut text);
-    print(&file, n, &text[..end], output)
+    let end = answer(&file[..n], &mut text);
+    print(&file[..n], &text[..end], output)
 }
 
 // Reads the input to its end or until `file` is full, and answers how many bytes it put at the front of `file`.
-// One byte more than the longest file shows that the input is too long.
+// One byte more than the longest file shows that the input is too long. The loop is its own, since std's `read_to_end` asks
+// for a heap.
 fn read<R: Read>(input: &mut R, file: &mut [u8]) -> io::Result<usize>
     requires { longest_file < length file.old }
     ensures prefix_len { IfOk result (λ n. IsPrefixLen n file.new) }
@@ -47,26 +48,22 @@ fn read<R: Read>(input: &mut R, file: &mut [u8]) -> io::Result<usize>
     Ok(end)
 }
 
-// Makes what is to be printed of the input, of which `file` holds n bytes, at the front of `text`, and answers its length.
-fn answer(file: &[u8], n: usize, text: &mut [u8]) -> usize
-    requires longest_file_in_bounds { longest_file < length file.now }
-    requires n_in_bounds { n ≤ length file.now }
-    requires longest_report_in_bounds { longest_report ≤ length text.old }
+// Makes what is to be printed of a file at the front of `text`, and answers its length.
+fn answer(file: &[u8], text: &mut [u8]) -> usize
+    requires { longest_report ≤ length text.old }
     ensures prefix_len { IsPrefixLen result text.new }
-    ensures answers { Answers file.now n (take result text.new) }
+    ensures answers { take result text.new ≡ printed file.now }
 {
-    let report = ardenquill::report(&file[..n], text);
-    if report.number != 0 {
-        let line = ardenquill::refusal_line(report.number, report.place, text);
-        return line.length as usize;
+    match ardenquill::report(file, text) {
+        Ok(length) => length,
+        Err(refused) => ardenquill::refusal_line(refused.number(), refused.place, text).unwrap(),
     }
-    report.length as usize
 }
 
-// Prints `text`. The bytes that were read are parameters for the contract's sake alone: it asks that `text` is what is
+// Prints `text`. The bytes that were read are a parameter for the contract's sake alone: it asks that `text` is what is
 // to be printed of them.
-fn print<W: Write>(file: &[u8], n: usize, text: &[u8], output: &mut W) -> io::Result<()>
-    requires { Answers file.now n text.now }
+fn print<W: Write>(file: &[u8], text: &[u8], output: &mut W) -> io::Result<()>
+    requires { text.now ≡ printed file.now }
     ensures { OnOk result (Appends (W.contents output.old) (W.contents output.new) text.now) }
 {
     output.write_all(text)

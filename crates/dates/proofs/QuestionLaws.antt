@@ -6,6 +6,7 @@
 --   deadline_accepts           it is not refused exactly when the chain is accepted, its capacities are enough, the node and the firing exist, and no index
 --                              on the way down passes the limit
 --   deadline_due, _refused     the deadline that it gives
+--   asking                     what the check proves the code of a question by
 use Rattle.std.proofs.Math.Logic.Iff
 use Rattle.std.specs.Prelude.{◌≡◌, ◌↔◌, ◌≢◌, ◌⊎◌, false, ◌||◌, [], ◌∷◌, ◌++◌, ℕ, ◌≤◌, ◌<◌, ltb, eqb, get_or, take}
 use Rattle.std.proofs.Common.{sym, eq-eqb, ne_eqb}
@@ -22,7 +23,8 @@ use Rattle.sizing.specs.Accepted.{Accepted}
 use Rattle.sizing.proofs.AcceptedLaws.{run_accepts}
 use Rattle.deadline.specs.Deadline.{deadline, index_check, index, FirstPassing}
 use Rattle.deadline.proofs.DeadlineLaws.{index_exact, index_silent, index_only}
-use Rattle.dates.specs.Question.{answered_due, ask_check, deadline_checks, deadline_refusal, deadline_answer, ask_numbers, deadline_numbers}
+use Rattle.state.specs.Checks.{planned_run}
+use Rattle.dates.specs.Question.{answered_due, answered_error, ask_check, deadline_checks, deadline_refusal, deadline_answer, ask_numbers, deadline_numbers}
 
 -- 11 says the node asked, exactly where the node or the firing does not exist
 module _ (c : Chain) (i k : ℕ) where
@@ -92,3 +94,6 @@ module _ (c : Chain) (i k : ℕ) where
   pub deadline_refused : (Silent (deadline_refusal c i k) → ⊥) → (deadline_answer c i k).due ≡ 0
   unfolding deadline_answer answered_due
   deadline_refused n = simp (ne_eqb _ _ n)
+
+-- by these the check proves the code of a question
+pub ruleset asking = (deadline_parts, answered_error, planned_run)

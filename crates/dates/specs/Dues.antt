@@ -2,19 +2,20 @@
 --   Step p c b k             one step: the numbers of a queue and an index, in range
 --   Shown l f c s            the plan l and the flow f show the chain c and the state s
 --   Dues l f i k             they show a sound chain, which has a node i; k is an index of its firings
---   DueGives l f i k r       of every chain that they show, r is the deadline of N_i's k-th firing, or never
---   PassingGives l f i k r   of every chain that they show, r is the place that 13 says of it, 0 where 13 is silent
+--   DueGives l f i k r       of every chain that they show, r says 13 of it, or is the deadline of N_i's k-th firing
 --   Dated l f i              and N_i's count can grow
 --   DatedGives l f i r       of every chain and state that they show, r is the deadline of N_i's next firing, or never
-use Rattle.std.specs.Prelude.{◌≡◌, List, ℕ, suc, ◌≤◌, ◌<◌}
+use Rattle.std.specs.Prelude.{◌≡◌, Result, IfOk, List, ℕ, suc, ◌≤◌, ◌<◌}
 use Rattle.chain.specs.Sound.{Sound}
 use Rattle.chain.specs.Tests.{In}
+use Rattle.chain.specs.Said.{said}
 use Rattle.chain.specs.declared.Chain.{Chain}
+use Rattle.chain.specs.declared.reasons.Refused.{Refused}
 use Rattle.sizing.specs.Checks.{limit}
 use Rattle.state.specs.State.{count_at}
 use Rattle.state.specs.declared.Run.{Run}
 use Rattle.flow.specs.Flow.{Shows}
-use Rattle.deadline.specs.Deadline.{index_check}
+use Rattle.deadline.specs.Deadline.{deadline, index_check}
 use Rattle.sizing.specs.Plan.{Plans}
 use Rattle.dates.specs.Question.{dated_of}
 
@@ -39,12 +40,10 @@ pub record Dues (l f : List ℕ) (i k : ℕ) : Type 0 where
   pub node : i ≤ chain.n
   pub index : 1 ≤ k
 
--- what it gives, and what the code of 13's place does
-pub record DueGives (l f : List ℕ) (i k r : ℕ) : Type 0 where
-  pub due : {c : Chain} {s : Run} → Shown l f c s → r ≡ dated_of c i k
-
-pub record PassingGives (l f : List ℕ) (i k r : ℕ) : Type 0 where
-  pub place : {c : Chain} {s : Run} → Shown l f c s → r ≡ (index_check c i k).place
+-- what it gives
+pub record DueGives (l f : List ℕ) (i k : ℕ) (r : Result ℕ Refused) : Type 0 where
+  pub says : {c : Chain} {s : Run} → Shown l f c s → said r ≡ index_check c i k
+  pub due : {c : Chain} {s : Run} → Shown l f c s → IfOk r (λ (d : ℕ). d ≡ deadline c i k)
 
 -- what the code of a next firing's deadline asks; that the count is below the limit is said here, since the words of a lent array come with no range
 pub record Dated (l f : List ℕ) (i : ℕ) : Type 0 where

@@ -2,6 +2,8 @@
 --   answered_due r d           the answer of a question: the refusal r, or the deadline d where r is silent
 --   refused_with N L           the answer of a question that is refused with number N and place L
 --   answered_refused, _fine    its two cases
+--   due_said o                 the answer that a result makes which is a deadline or an error
+--   said_answered              which is the question's, of what the result says; answered_error: where it is an error
 --   never, never_word          what stands for a deadline that cannot be had: the largest number of 64 bits
 --   dated_of c i k             the deadline of N_i's k-th firing, or never
 --   ask_check c i k            11: there is no such node, or no such firing
@@ -11,15 +13,17 @@
 --   deadline_most              no deadline is above 4,294,967,294 × 1,000,000 where no index passes
 --   dated_had, dated_never     what dated_of is where 13 is silent, and where it speaks
 --   dated_exact                it is never exactly when 13 speaks
-use Rattle.std.specs.Prelude.{◌≡◌, refl, ◌↔◌, cond, ◌||◌, List, [], ◌∷◌, ◌++◌, ℕ, zero, suc, ◌+◌, ◌-◌, ◌*◌, ◌^◌, ◌≤◌, ◌<◌, ltb, eqb}
-use Rattle.std.proofs.Common.{mul-le-mul, eq-eqb, ne_eqb}
+use Rattle.std.specs.Prelude.{◌≡◌, refl, ◌↔◌, cond, Result, IfOk, ◌||◌, List, [], ◌∷◌, ◌++◌, ℕ, zero, suc, ◌+◌, ◌-◌, ◌*◌, ◌^◌, ◌≤◌, ◌<◌, ltb, eqb}
+use Rattle.std.proofs.Common.{Ok, Err, sym, mul-le-mul, eq-eqb, ne_eqb}
 use native.Mathlib.Omega.{arith}
 use Rattle.chain.specs.Tests.{below_false}
 use Rattle.chain.specs.Refusals.{fine, test, first, Silent, or_silents}
 use Rattle.chain.specs.Refusals.{test_silent}
 use Rattle.chain.specs.Record.{row_of}
 use Rattle.chain.specs.Sound.{Sound}
-use Rattle.chain.specs.declared.Refusal.{Refusal}
+use Rattle.chain.specs.Refusal.{Refusal}
+use Rattle.chain.specs.Said.{code, refusal, said, speaks}
+use Rattle.chain.specs.declared.reasons.Refused.{Refused}
 use Rattle.chain.specs.declared.Chain.{Chain}
 use Rattle.sizing.specs.Checks.{limit, run_checks, run_refusal, run_numbers}
 use Rattle.deadline.specs.Deadline.{earlier, deadline, index_check}
@@ -33,6 +37,11 @@ answered_due r d = record { number = r.number; place = r.place; due = cond (eqb 
 abbrev pub refused_with : ℕ → ℕ → DeadlineAnswer
 refused_with N L = record { number = N; place = L; due = 0 }
 
+-- the answer that a result makes which is a deadline or an error
+abbrev pub due_said : Result ℕ Refused → DeadlineAnswer
+due_said (Ok d) = record { number = 0; place = 0; due = d }
+due_said (Err e) = refused_with (code e.reason) e.place
+
 -- a refusal gives no deadline, and an answer that is not refused has number and place 0
 pub answered_refused : (r : Refusal) (d : ℕ) → (Silent r → ⊥) → refused_with r.number r.place ≡ answered_due r d
 unfolding answered_due
@@ -41,6 +50,14 @@ answered_refused r d h = simp (ne_eqb _ _ h)
 pub answered_fine : {r : Refusal} (d : ℕ) → fine ≡ r → record { number = 0; place = 0; due = d } ≡ answered_due r d
 unfolding answered_due
 answered_fine d e = rw (← e)
+
+-- a result's answer is the question's, of what the result says; an Ok result has the deadline
+pub said_answered : (d : ℕ) (o : Result ℕ Refused) → IfOk o (λ (t : ℕ). t ≡ d) → due_said o ≡ answered_due (said o) d
+said_answered d (Ok t) e = rw e (answered_fine d refl)
+said_answered d (Err e) _ = answered_refused (refusal e) d (speaks e)
+
+pub answered_error : (e : Refused) (d : ℕ) → answered_due (refusal e) d ≡ due_said (Err e)
+answered_error e d = sym (said_answered d (Err e) tt)
 
 -- what stands for a deadline that can't be had
 abbrev pub never : ℕ

@@ -8,9 +8,10 @@
 --   decimal_length      a byte more for one digit more
 --   decimal_some, _short, _long
 --                       it has a byte; at most d bytes where the number is below 10 ^ d, and more than d from there on
+--   decimal_width       by the whole part k of its logarithm it has k + 1 bytes, and 0 has one
 --   decimal_word        at most 10 bytes for a number of 32 bits
 --   column_word         at most 11 bytes for a number of 32 bits
-use Rattle.std.specs.Prelude.{◌≡◌, refl, List, [], ◌∷◌, ◌++◌, ℕ, zero, suc, ◌+◌, ◌/◌, ◌%◌, ◌^◌, ◌≤◌, ◌<◌, length, get_or}
+use Rattle.std.specs.Prelude.{◌≡◌, refl, List, [], ◌∷◌, ◌++◌, ℕ, zero, suc, ◌+◌, ◌*◌, ◌/◌, ◌%◌, ◌^◌, ◌≤◌, ◌<◌, max, length, get_or}
 use Rattle.std.proofs.Common.{sym, ap, ◌∙◌, ⊎_elim, not-suc-le-zero, pow-suc, mod-eq_of_lt, arith, length-append}
 use Rattle.std.proofs.Math.Nat.{one-le-pow}
 use Rattle.std.proofs.Math.ListN.{get_or-append}
@@ -103,6 +104,13 @@ decimal_long (suc d) n h =
     let more : 10 ^ d ≤ n / 10 = omega (arith, pow-suc 10 d) in
     let tens : 10 ≤ n = omega (arith, one-le-pow d 10 (omega arith)) in
     omega (arith, decimal_length n tens, decimal_long d (n / 10) more)
+
+pub decimal_width : (k n : ℕ) → 10 ^ k ≤ max n 1 → max n 1 < 10 * 10 ^ k → length (decimal n) ≡ k + 1
+decimal_width k n lo hi = omega (arith, decimal_short (suc k) n (omega (arith, pow-suc 10 k)) (omega arith), long k lo)
+  where
+    long : (k : ℕ) → 10 ^ k ≤ max n 1 → k < length (decimal n)
+    long zero l = decimal_some n
+    long (suc k) l = decimal_long (suc k) n (omega (arith, pow-suc 10 k, one-le-pow k 10 (omega arith)))
 
 pub decimal_word : (n : ℕ) → n < 2 ^ 32 → length (decimal n) ≤ 10
 decimal_word n h = decimal_short 10 n (omega arith) (omega arith)

@@ -1,105 +1,61 @@
-// Numbers as decimal text, written into the caller's bytes where there is room. Each writer answers the place behind what
-// it wrote, so that the next one goes on from there; what the text is, is in specs/.
+// Numbers as decimal text, written where there is room by a writer, which stands behind the text then; what the text is, is
+// in specs/. They are functions, since the writer is of another crate.
 #![tactic(auto)]
 
-ghost use Rattle.std.specs.Prelude.{◌≡◌, ◌∷◌, [], ◌+◌, ◌≤◌, length, nat_abs};
-ghost use Rattle.words.specs.Put.{Room, Puts};
+ghost use Rattle.std.specs.Prelude.{◌≡◌, ◌+◌, ◌≤◌, length};
+ghost use Rattle.words.specs.Writer.{Free, Wrote};
 ghost use Rattle.decimal.specs.Digits.{last_digit, decimal, column};
 ghost use Rattle.decimal.specs.Signed.{integer};
 
-// Writes one byte at `at`.
-pub fn put_byte(out: &mut [u8], at: usize, b: u8) -> usize
-    requires { Room out.old at 1 }
-    ensures { Puts out.old at (b ∷ []) out.new result }
-{
-    out[at] = b;
-    at + 1
-}
+use words::Writer;
 
-// Writes a copy of `text` at `at`.
-pub fn put_bytes(out: &mut [u8], at: usize, text: &[u8]) -> usize
-    requires { Room out.old at (length text.now) }
-    ensures { Puts out.old at text.now out.new result }
+// Writes n: the last digit first, into the last of the places that n takes.
+pub fn put_decimal(out: &mut Writer, n: u32)
+    requires { Free out.old 10 }
+    ensures { Wrote out.old (decimal n) out.new × (out.new.at ≤ out.old.at + 10) }
 {
-    let mut i = 0;
-    let mut k = at;
-    while i < text.len() {
-        out[k] = text[i];
-        k += 1;
-        i += 1;
-    }
-    k
-}
-
-// Writes n at `at`: the last digit first, into the last of the places that n takes.
-pub fn put_decimal(out: &mut [u8], at: usize, n: u32) -> usize
-    requires { Room out.old at 10 }
-    ensures { Puts out.old at (decimal n) out.new result × (result ≤ at + 10) }
-{
-    let end = at + width(n);
-    let mut i = end;
+    let end = out.at + width(n);
     let mut rest = n;
-    while 10 <= rest {
-        i -= 1;
-        out[i] = digit(rest);
+    for i in (out.at..end).rev() {
+        out.out[i] = digit(rest);
         rest /= 10;
     }
-    out[at] = digit(rest);
-    end
+    out.at = end;
 }
 
 // Writes n and one byte behind it.
-pub fn put_column(out: &mut [u8], at: usize, n: u32, b: u8) -> usize
-    requires { Room out.old at 11 }
-    ensures { Puts out.old at (column n b) out.new result × (result ≤ at + 11) }
+pub fn put_column(out: &mut Writer, n: u32, b: u8)
+    requires { Free out.old 11 }
+    ensures { Wrote out.old (column n b) out.new × (out.new.at ≤ out.old.at + 11) }
 {
-    let k = put_decimal(out, at, n);
-    put_byte(out, k, b)
+    put_decimal(out, n);
+    out.byte(b);
 }
 
-// Writes z at `at`, a minus sign before it where it is negative.
-pub fn put_integer(out: &mut [u8], at: usize, z: i32) -> usize
-    requires { Room out.old at 11 }
-    ensures { Puts out.old at (integer z) out.new result × (result ≤ at + 11) }
+// Writes z, a minus sign before it where it is negative.
+pub fn put_integer(out: &mut Writer, z: i32)
+    requires { Free out.old 11 }
+    ensures { Wrote out.old (integer z) out.new × (out.new.at ≤ out.old.at + 11) }
 {
-    let n = size(z);
+    let n = z.unsigned_abs();
     if z < 0 {
-        let k = put_byte(out, at, b'-');
-        put_decimal(out, k, n)
+        out.byte(b'-');
+        put_decimal(out, n)
     } else {
-        put_decimal(out, at, n)
+        put_decimal(out, n)
     }
 }
 
-// How many digits n has: one more for each power of ten that it reaches, found without a division.
+// How many digits n has: one more for each power of ten that it reaches, and 0 has one too. (No `From` leads to usize.)
 fn width(n: u32) -> usize
     ensures { (result ≡ length (decimal n)) × (result ≤ 10) }
 {
-    let wide = n as u64;
-    let mut k = 1;
-    let mut power = 10;
-    while power <= wide {
-        k += 1;
-        power *= 10;
-    }
-    k
+    n.max(1).ilog10() as usize + 1
 }
 
-// The byte of n's last digit.
+// The byte of n's last digit. The cast is proved to lose nothing; `try_from` would only add an error that cannot come.
 fn digit(n: u32) -> u8
     ensures { result ≡ last_digit n }
 {
-    let d = n % 10;
-    48 + d as u8
-}
-
-// How far z is from 0.
-fn size(z: i32) -> u32
-    ensures { result ≡ nat_abs z }
-{
-    if z < 0 {
-        (0 - (z as i64)) as u32
-    } else {
-        z as u32
-    }
+    b'0' + (n % 10) as u8
 }

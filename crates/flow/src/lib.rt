@@ -1,5 +1,6 @@
 // The flow: a chain's rows and a run's counts and contents in one array of words, which code that fires nodes one by one
-// lends from call to call. Records of this size, handed by value, would be copied at each firing.
+// lends from call to call. Records of this size, handed by value, would be copied at each firing. It is an array and no
+// struct of arrays, since what specs/ says of a flow (`Shows`, `firing`, `shows_fired`, `shown_is`) is said of a list of words.
 #![tactic(auto)]
 
 ghost use Rattle.std.specs.Prelude.{◌≡◌, length};
@@ -8,7 +9,7 @@ ghost use Rattle.state.specs.State.{fresh_run};
 ghost use Rattle.flow.specs.Flow.{put_in, taken_out, firing, Ready, Puts, Takes, Shows};
 ghost use Rattle.flow.specs.Lost.{losing, Loses};
 ghost use Rattle.flow.specs.Shown.{shown};
-ghost use Rattle.flow.specs.Poured.{Showing, Full};
+ghost use Rattle.flow.specs.Poured.{Showing, Typed, Full};
 
 use chain::Chain;
 use state::Run;
@@ -34,7 +35,7 @@ pub fn effect(flow: &mut [u32; LENGTH], i: usize)
     requires { Ready flow.old i }
     ensures { flow.new ≡ firing flow.old i }
 {
-    flow[COUNTS + i] = flow[COUNTS + i] + 1;
+    flow[COUNTS + i] += 1;
     produce(flow, i);
     consume(flow, i);
 }
@@ -44,7 +45,7 @@ pub fn loss(flow: &mut [u32; LENGTH], i: usize)
     requires { Loses flow.old i }
     ensures { flow.new ≡ losing flow.old i }
 {
-    flow[COUNTS + i] = flow[COUNTS + i] + 1;
+    flow[COUNTS + i] += 1;
     consume(flow, i);
 }
 
@@ -55,7 +56,7 @@ fn produce(flow: &mut [u32; LENGTH], i: usize)
 {
     let n = flow[SIZE] as usize;
     if i < n {
-        flow[HELD + i] = flow[HELD + i] + flow[PRODUCE + i];
+        flow[HELD + i] += flow[PRODUCE + i];
     }
 }
 
@@ -66,51 +67,45 @@ fn consume(flow: &mut [u32; LENGTH], i: usize)
 {
     if 0 < i {
         let j = i - 1;
-        flow[HELD + j] = flow[HELD + j] - flow[CONSUME + j];
+        flow[HELD + j] -= flow[CONSUME + j];
     }
 }
 
 // The flow of a chain at a fresh start.
-pub fn started(chain: Chain) -> [u32; LENGTH]
-    requires { Sound chain }
-    ensures { Shows result chain (fresh_run chain) }
+pub fn started(chain: &Chain) -> [u32; LENGTH]
+    requires { Sound chain.now }
+    ensures { Shows result chain.now (fresh_run chain.now) }
 {
-    let n = chain.n as usize;
     let mut flow = [0; LENGTH];
     flow[SIZE] = chain.n;
-    let mut i = 0;
-    while i < n {
+    for i in 0..chain.n as usize {
         let q = chain.queues[i];
         flow[PRODUCE + i] = q.produce;
         flow[THRESHOLD + i] = q.threshold;
         flow[CONSUME + i] = q.consume;
-        i += 1;
     }
     flow
 }
 
 // The flow of a chain at a state.
-pub fn showing(chain: Chain, run: Run) -> [u32; LENGTH]
-    requires { Sound chain }
-    ensures { Showing result chain run }
+pub fn showing(chain: &Chain, run: &Run) -> [u32; LENGTH]
+    requires { Sound chain.now }
+    ensures { Showing result chain.now run.now }
 {
     let mut flow = started(chain);
-    pour(&mut flow, run);
+    pour(&mut flow, *run);
     flow
 }
 
-// The counts and contents of a state, poured into a flow.
+// The counts and contents of a state, poured into a flow. The state comes by value: only so are all of its slots known to
+// be words.
 fn pour(flow: &mut [u32; LENGTH], run: Run)
     requires { length flow.old ≡ 83 }
-    ensures { Full flow.old run flow.new }
+    ensures typed { Typed run }
+    ensures full { Full flow.old run flow.new }
 {
-    let mut i = 0;
-    while i < 16 {
-        flow[COUNTS + i] = run.counts[i];
-        flow[HELD + i] = run.held[i];
-        i += 1;
-    }
-    flow[COUNTS + 16] = run.counts[16];
+    flow[COUNTS..COUNTS + 17].copy_from_slice(&run.counts);
+    flow[HELD..HELD + 16].copy_from_slice(&run.held);
 }
 
 // The state that a flow shows, clock and work done being 0.
@@ -118,12 +113,7 @@ pub fn shown(flow: &[u32; LENGTH]) -> Run
     ensures { result ≡ shown flow.now }
 {
     let mut run = state::EMPTY;
-    let mut i = 0;
-    while i < 16 {
-        run.counts[i] = flow[COUNTS + i];
-        run.held[i] = flow[HELD + i];
-        i += 1;
-    }
-    run.counts[16] = flow[COUNTS + 16];
+    run.counts.copy_from_slice(&flow[COUNTS..COUNTS + 17]);
+    run.held.copy_from_slice(&flow[HELD..HELD + 16]);
     run
 }

@@ -9,7 +9,7 @@
 use Rattle.std.specs.Prelude.{List, [], ◌∷◌, ◌++◌, ℕ, suc, ◌≤◌, ◌<◌, ltb}
 use Rattle.words.specs.Table.{tab}
 use Rattle.chain.specs.Refusals.{test, first}
-use Rattle.chain.specs.declared.Refusal.{Refusal}
+use Rattle.chain.specs.Refusal.{Refusal}
 use Rattle.chain.specs.declared.Chain.{Chain}
 use Rattle.sizing.specs.Checks.{run_checks, run_refusal, run_numbers}
 use Rattle.state.specs.State.{empty_run, fresh_run, answered}

@@ -6,7 +6,8 @@ ghost use Rattle.std.specs.Prelude.{◌≡◌, ◌+◌, ◌*◌};
 ghost use Rattle.chain.specs.Sound.{Sound};
 ghost use Rattle.sizing.specs.Sizes.{start};
 ghost use Rattle.events.specs.Counts.{fires};
-ghost use Rattle.state.specs.State.{fresh_run};
+ghost use Rattle.chain.specs.Said.{said};
+ghost use Rattle.state.specs.State.{empty_run, fresh_run, run_said};
 ghost use Rattle.history.specs.History.{after};
 ghost use Rattle.schedule.specs.Schedule.{schedule};
 ghost use Rattle.immediate.specs.Checks.{length_check, immediate_answer};
@@ -14,43 +15,33 @@ ghost use Rattle.immediate.specs.Long.{Few};
 ghost use Rattle.immediate.specs.Steps.{Bounds};
 ghost use Rattle.immediate.specs.Lent.{Fire, FireGives, Settle, SettleGives};
 
-use chain::{Chain, Queue, Refusal};
+use chain::{Chain, Queue, Reason, Refused};
 use flow::{HELD, LENGTH, SIZE, THRESHOLD};
-use state::{Run, RunAnswer};
+use state::Run;
 
 // The largest count of an immediate run.
 const MOST: u64 = 1000000;
 
 // The state after k source firings from a fresh start, each settled before the next, or the first of 2, 4, 5, 6, 7, 8 and 9
 // that refuses the run.
-pub fn immediate(chain: Chain, k: u32) -> RunAnswer
-    ensures { result ≡ immediate_answer chain k }
+pub fn immediate(chain: Chain, k: u32) -> Result<Run, Refused>
+    ensures { run_said empty_run result ≡ immediate_answer chain k }
 {
-    let sized = sizing::checked_for_run(chain);
-    if sized.number != 0 {
-        return state::given_back(sized.number, sized.place, state::EMPTY);
-    }
-    let long = too_long(chain, k);
-    if long.number != 0 {
-        return state::given_back(long.number, long.place, state::EMPTY);
-    }
-    RunAnswer {
-        number: 0,
-        place: 0,
-        run: driven(chain, k),
-    }
+    // The plan is drawn for its checks alone: an analysis would take more of the stack.
+    let mut plan = [0; sizing::PLAN];
+    sizing::planned_for_run(chain, &mut plan)?;
+    check_length(&chain, k)?;
+    Ok(driven(&chain, k))
 }
 
 // k source firings from a fresh start, each settled before the next.
-fn driven(chain: Chain, k: u32) -> Run
-    requires { Bounds k chain }
-    ensures { result ≡ after chain (fresh_run chain) (schedule chain k) }
+fn driven(chain: &Chain, k: u32) -> Run
+    requires { Bounds k chain.now }
+    ensures { result ≡ after chain.now (fresh_run chain.now) (schedule chain.now k) }
 {
     let mut flow = flow::started(chain);
-    let mut m = 0;
-    while m < k {
+    for _ in 0..k {
         fire(&mut flow, 0);
-        m += 1;
     }
     flow::shown(&flow)
 }
@@ -80,25 +71,16 @@ fn settle(flow: &mut [u32; LENGTH], q: usize)
 }
 
 // 9: the lowest node whose count at the end of k source firings passes the limit.
-fn too_long(chain: Chain, k: u32) -> Refusal
-    requires { Sound chain }
-    ensures { result ≡ length_check chain k }
+fn check_length(chain: &Chain, k: u32) -> Result<(), Refused>
+    requires { Sound chain.now }
+    ensures { said result ≡ length_check chain.now k }
 {
-    let n = chain.n as usize;
-    let mut count = k as u64;
-    let mut i = 0;
-    while count <= MOST {
-        if i == n {
-            return chain::FINE;
-        }
-        let q = chain.queues[i];
-        count = fed(q, count);
-        i += 1;
+    let mut count = u64::from(k);
+    for i in 0..chain.n {
+        chain::test(Reason::RunTooLong, i, MOST < count)?;
+        count = fed(chain.queues[i as usize], count);
     }
-    Refusal {
-        number: 9,
-        place: i as u32,
-    }
+    chain::test(Reason::RunTooLong, chain.n, MOST < count)
 }
 
 // How often a queue's consumer has fired once its producer has fired so often and the queue is below threshold.
@@ -106,10 +88,10 @@ fn fed(q: Queue, made: u64) -> u64
     requires { Few q made }
     ensures { result ≡ fires q.threshold q.consume (start q + q.produce * made) }
 {
-    let put = (q.produce as u64) * made;
-    let threshold = q.threshold as u64;
+    let put = u64::from(q.produce) * made;
+    let threshold = u64::from(q.threshold);
     if put < threshold {
         return 0;
     }
-    (put - threshold) / (q.consume as u64) + 1
+    (put - threshold) / u64::from(q.consume) + 1
 }

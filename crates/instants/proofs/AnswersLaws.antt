@@ -35,7 +35,7 @@ use Rattle.instants.proofs.ExactlyLaws.{is_one, one_overflows, one_lacks, one_le
 use Rattle.instants.specs.declared.Outcome.{Outcome}
 use Rattle.instants.specs.declared.Outcome.TheVariants.{Clean, Overflowed, NoDeadline}
 use Rattle.instants.specs.declared.Ticked.{Ticked}
-use Rattle.instants.specs.declared.TickAnswer.{TickAnswer}
+use Rattle.instants.specs.Answered.{TickAnswer}
 use Rattle.instants.specs.Answers.{left, ran_same, Ends, CleanStep}
 
 module _ (c : Chain) (s : Run) (w : Whole s) (ok : (tick_answer c s).number ≡ 0) where

@@ -36,7 +36,7 @@ use Rattle.chain.specs.Refusals.{refused, fine, first, or_else, first_append, fi
 use Rattle.chain.proofs.RefusalsLaws.{exact_at}
 use Rattle.chain.specs.Refusals.{or_says, or_silents, silent_as, says_last, Lowest, lowest_is, Only, only_test, only_tab}
 use Rattle.chain.specs.Refusals.{only_or, test_exact, test_silent, test_alone, all_silent, said_earlier, numbered_append}
-use Rattle.chain.specs.declared.Refusal.{Refusal}
+use Rattle.chain.specs.Refusal.{Refusal}
 use Rattle.chain.specs.declared.Chain.{Chain}
 use Rattle.sizing.specs.Checks.{limit, Enough, run_checks, run_refusal, run_numbers}
 use Rattle.sizing.proofs.ChecksLaws.{run_numbered}

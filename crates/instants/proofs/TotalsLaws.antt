@@ -19,7 +19,7 @@ use Rattle.instants.proofs.OnceLaws.{once_counts, once_keeps}
 use Rattle.instants.specs.Answers.{CleanStep}
 use Rattle.instants.proofs.AnswersLaws.{run_may, at_clock, run_start, along}
 use Rattle.instants.specs.declared.Outcome.TheVariants.{Clean}
-use Rattle.instants.specs.declared.TickAnswer.{TickAnswer}
+use Rattle.instants.specs.Answered.{TickAnswer}
 use Rattle.instants.specs.Totals.{due_more, total, source_total, other_work, own_work, SomeOver, Waits, work_total, HowMany, many_next, fresh_total}
 
 -- its count after one clean tick

@@ -15,7 +15,7 @@ use Rattle.instants.specs.Once.{TickOnce}
 use Rattle.instants.specs.declared.Outcome.{Outcome}
 use Rattle.instants.specs.declared.Outcome.TheVariants.{Clean}
 use Rattle.instants.specs.declared.Ticked.{Ticked}
-use Rattle.instants.specs.declared.TickAnswer.{TickAnswer}
+use Rattle.instants.specs.Answered.{TickAnswer}
 
 -- an outcome, and the state that it leaves
 abbrev pub left : TickAnswer → Ticked

@@ -14,7 +14,7 @@
 use Rattle.std.specs.Prelude.{cond, List, [], ◌∷◌, ◌++◌, ℕ, suc, eqb, ltb, leb}
 use Rattle.words.specs.Table.{tab}
 use Rattle.chain.specs.Refusals.{test, first}
-use Rattle.chain.specs.declared.Refusal.{Refusal}
+use Rattle.chain.specs.Refusal.{Refusal}
 use Rattle.chain.specs.declared.Chain.{Chain}
 use Rattle.sizing.specs.Checks.{limit, run_checks, run_refusal}
 use Rattle.state.specs.State.{count_at, empty_run, fresh_run}
@@ -23,7 +23,7 @@ use Rattle.state.specs.declared.Run.{Run}
 use Rattle.instants.specs.Steps.{tick, instants}
 use Rattle.instants.specs.declared.Outcome.TheVariants.{Clean}
 use Rattle.instants.specs.declared.Ticked.{Ticked}
-use Rattle.instants.specs.declared.TickAnswer.{TickAnswer}
+use Rattle.instants.specs.Answered.{TickAnswer}
 
 -- "T at most 1,000,000"
 abbrev pub longest : ℕ

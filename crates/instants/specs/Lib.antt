@@ -1,3 +1,4 @@
+pub mod Answered
 pub mod Steps
 pub mod Figures
 pub mod Checks

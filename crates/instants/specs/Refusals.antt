@@ -17,7 +17,7 @@ use native.Mathlib.Omega.{arith}
 use Rattle.chain.specs.Refusals.{refused, fine, first, or_else, first_append, first_silent, Silent, Silents, Numbered, Others}
 use Rattle.chain.specs.Refusals.{number_of, or_says, or_silents}
 use Rattle.chain.specs.Refusals.{said_earlier}
-use Rattle.chain.specs.declared.Refusal.{Refusal}
+use Rattle.chain.specs.Refusal.{Refusal}
 use Rattle.chain.specs.declared.Chain.{Chain}
 use Rattle.sizing.specs.Checks.{limit, Enough, run_numbers}
 use Rattle.sizing.specs.Accepted.{Accepted}
@@ -28,7 +28,7 @@ use Rattle.instants.specs.Checks.{longest, clock_check, spent_check}
 use Rattle.instants.specs.Checks.{outcome_of}
 use Rattle.instants.specs.declared.Outcome.TheVariants.{Clean}
 use Rattle.instants.specs.declared.Ticked.{Ticked}
-use Rattle.instants.specs.declared.TickAnswer.{TickAnswer}
+use Rattle.instants.specs.Answered.{TickAnswer}
 
 -- 9 of the counts in words: L is the lowest node whose count cannot grow
 pub record FirstSpent (c : Chain) (s : Run) (L : ℕ) : Type 0 where

@@ -28,7 +28,7 @@ use Rattle.std.specs.Prelude.{◌≡◌, refl, Bool, true, cond, ◌&&◌, not, 
 use Rattle.words.specs.Table.{tab}
 use Rattle.chain.specs.Refusals.{test, first}
 use Rattle.chain.specs.Record.{work_of}
-use Rattle.chain.specs.declared.Refusal.{Refusal}
+use Rattle.chain.specs.Refusal.{Refusal}
 use Rattle.chain.specs.declared.Chain.{Chain}
 use Rattle.state.specs.State.{count_at, done_at}
 use Rattle.state.specs.Fired.{fired}

@@ -18,12 +18,3 @@ pub struct Ticked {
     pub outcome: Outcome,
     pub run: Run,
 }
-
-// An outcome with the state that it leaves, beside the refusal that the call ended with, if any.
-#[derive(Clone, Copy)]
-pub struct TickAnswer {
-    pub number: u32,
-    pub place: u32,
-    pub outcome: Outcome,
-    pub run: Run,
-}

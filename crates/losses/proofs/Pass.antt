@@ -1,5 +1,5 @@
 -- The pass over a list of losses: before entry k each entry before it names a queue, and the sums are theirs.
-use mathlib.Core.Path.{◌≡◌, refl, sym, ap, ◌∙◌}
+use mathlib.Core.Path.{◌≡◌, refl, sym, ap, ap₂, ◌∙◌}
 use mathlib.Core.Bool.{Bool, true, false, cond}
 use mathlib.Core.Logic.{by_cases}
 use mathlib.Core.List.{List, [], ◌∷◌}
@@ -12,12 +12,15 @@ use lib.ListN.{length, get_or, set, replicate, length-set, length-replicate, get
 use lib.Seq.{get_or-set_same, get_or-set_other}
 use borrow.Author.Tests.{eq-eqb, ne_eqb}
 use Rattle.words.specs.Table.{tab, tab_more, below_next}
+use Rattle.std.proofs.Common.{Ok, Err}
+use Rattle.chain.specs.declared.reasons.Reason.TheVariants.{BrokenState}
 use Rattle.chain.specs.Refusals.{fine, or_right, first_fine}
 use Rattle.losses.specs.Losses.{entry_at, lost_in}
 use Rattle.losses.proofs.LossesLaws.{lost_append}
 use Rattle.losses.specs.Checks.{LongOrStray, Named, long_check, stray_test, stray_check, list_check}
 use Rattle.losses.proofs.ChecksLaws.{long_silent, stray_silent, list_exact}
 use Rattle.losses.specs.Tally.{TallyGives}
+use Rattle.losses.specs.declared.Loss.{Loss}
 use Rattle.losses.specs.declared.Losses.{Losses}
 
 -- the tokens of queue j in the first k entries
@@ -46,49 +49,42 @@ module _ (n : ℕ) (l : Losses) where
     few = λ j h. omega (arith, get_or-replicate {A = ℕ} 16 j 0 0 h);
   }
 
-  -- one entry more, of a number of 32 bits, whose queue has a slot
-  module _ {k : ℕ} {x : List ℕ} (p : Passed n l k x) (listed : k < l.count) (names : (entry_at l k).queue < n) (slot : (entry_at l k).queue < 16) (word : (entry_at l k).tokens ≤ 4294967295) where
-    abbrev q : ℕ
-    q = (entry_at l k).queue
-
+  -- one entry more, as code has read it: its queue has a slot, and its tokens are a number of 32 bits
+  module _ {k : ℕ} {x : List ℕ} {e : Loss} (p : Passed n l k x) (listed : k < l.count) (is : e ≡ entry_at l k) (names : e.queue < n) (few : n ≤ 16) (word : e.tokens ≤ 4294967295) where
     abbrev next : List ℕ
-    next = set x q (get_or x q 0 + (entry_at l k).tokens)
+    next = set x e.queue (get_or x e.queue 0 + e.tokens)
 
-    next_sum : (j : ℕ) → j < 16 → get_or next j 0 ≡ get_or x j 0 + cond (eqb q j) (entry_at l k).tokens 0
-    next_sum j h = by_cases (ℕ_discrete j q)
-        (λ e. rw e (get_or-set_same x q _ 0 (omega (arith, p.long)) ∙ simp (eq-eqb q q refl)))
-        (λ ne. get_or-set_other x q j _ 0 ne ∙ sym (simp (ne_eqb q j (λ e. ne (sym e)), add-zero (get_or x j 0))))
+    next_sum : (j : ℕ) → j < 16 → get_or next j 0 ≡ get_or x j 0 + cond (eqb e.queue j) e.tokens 0
+    next_sum j h = by_cases (ℕ_discrete j e.queue)
+        (λ same. rw same (get_or-set_same x e.queue _ 0 (omega (arith, p.long)) ∙ simp (eq-eqb e.queue e.queue refl)))
+        (λ ne. get_or-set_other x e.queue j _ 0 ne ∙ sym (simp (ne_eqb e.queue j (λ same. ne (sym same)), add-zero (get_or x j 0))))
 
-    at_most : (b : Bool) → cond b (entry_at l k).tokens 0 ≤ 4294967295
+    at_most : (b : Bool) → cond b e.tokens 0 ≤ 4294967295
     at_most true = word
     at_most false = omega arith
 
     pub passed_more : Passed n l (k + 1) next
     passed_more = record {
       within = omega arith;
-      long = length-set x q _ ∙ p.long;
-      named = below_next k names p.named;
-      sums = λ j h. next_sum j h ∙ ap (λ (y : ℕ). y + cond (eqb q j) (entry_at l k).tokens 0) (p.sums j h) ∙ sym (sum_more l k j);
-      few = λ j h. omega (arith, next_sum j h, p.few j h, at_most (eqb q j));
+      long = length-set x e.queue _ ∙ p.long;
+      named = below_next k (rw (← is) names) p.named;
+      sums = λ j h. next_sum j h ∙ ap₂ (λ (y : ℕ) (d : Loss). y + cond (eqb d.queue j) d.tokens 0) (p.sums j h) is ∙ sym (sum_more l k j);
+      few = λ j h. omega (arith, next_sum j h, p.few j h, at_most (eqb e.queue j));
     }
 
   -- the ways out: the list is refused, or its entries are summed
-  pub refuses : LongOrStray n l → TallyGives n l (record { number = 17; place = 0; lost = replicate 16 0 })
-  refuses h = record {
-    says = sym ((list_exact n l 0).1 (h, refl));
-    sums = λ z. absurd (omega (arith, z));
-    few = λ j m. omega (arith, get_or-replicate {A = ℕ} 16 j 0 0 m);
-  }
+  pub refuses : LongOrStray n l → TallyGives n l (Err (record { reason = BrokenState; place = 0 }))
+  refuses h = record { says = sym ((list_exact n l 0).1 (h, refl)); sums = tt; few = tt }
 
   list_fine : l.count ≤ 256 → Named n l → fine ≡ list_check n l
   unfolding list_check stray_check
   list_fine short named = or_right {r = long_check l} refl ((long_silent n l).1 short) (sym (first_fine (tab l.count (stray_test n l)) ((stray_silent n l).1 named)))
 
-  pub passed_all : {k : ℕ} {x : List ℕ} → l.count ≤ 256 → l.count ≤ k → Passed n l k x → TallyGives n l (record { number = 0; place = 0; lost = x })
+  pub passed_all : {k : ℕ} {x : List ℕ} → l.count ≤ 256 → l.count ≤ k → Passed n l k x → TallyGives n l (Ok x)
   passed_all {k} short over p =
       let e : k ≡ l.count = omega (arith, p.within) in
       record {
         says = list_fine short (λ i h. p.named i (omega arith));
-        sums = λ z j h. p.sums j h ∙ ap (λ (m : ℕ). sum_of l m j) e;
+        sums = λ j h. p.sums j h ∙ ap (λ (m : ℕ). sum_of l m j) e;
         few = λ j h. omega (arith, p.few j h);
       }

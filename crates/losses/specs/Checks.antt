@@ -8,7 +8,7 @@
 use Rattle.std.specs.Prelude.{◌⊎◌, ℕ, ◌≤◌, ◌<◌, leb, ltb}
 use Rattle.words.specs.Table.{tab}
 use Rattle.chain.specs.Refusals.{test, first, or_else}
-use Rattle.chain.specs.declared.Refusal.{Refusal}
+use Rattle.chain.specs.Refusal.{Refusal}
 use Rattle.losses.specs.Losses.{longest_list, entry_at}
 use Rattle.losses.specs.declared.Losses.{Losses}
 

@@ -5,6 +5,8 @@
 ghost use Rattle.chain.specs.Faults.{Few};
 ghost use Rattle.losses.specs.Tally.{TallyGives};
 
+use chain::{Reason, Refused};
+
 // One production that was dropped whole.
 #[repr(C)]
 #[derive(Clone, Copy)]
@@ -14,20 +16,12 @@ pub struct Loss {
     pub tokens: u32,
 }
 
-// The losses so far, in order; the slots from count on are no entries.
+// The losses so far, in order, as C has them; the slots from count on are no entries.
 #[repr(C)]
 #[derive(Clone, Copy)]
 pub struct Losses {
     pub count: u32,
     pub entries: [Loss; 256],
-}
-
-// 17 of a list, and where it is silent the tokens that each queue lost.
-#[derive(Clone, Copy)]
-pub struct Tally {
-    pub number: u32,
-    pub place: u32,
-    pub lost: [u64; 16],
 }
 
 // The slot of no entry.
@@ -46,35 +40,26 @@ pub const NONE: Losses = Losses {
 // The most entries of a list.
 pub const LONGEST: u32 = 256;
 
-// The tally of a list that is too long, or that names a queue which the chain does not have.
-const REFUSED: Tally = Tally {
-    number: 17,
+// A list that is too long, or that names a queue which the chain does not have.
+const REFUSED: Refused = Refused {
+    reason: Reason::BrokenState,
     place: 0,
-    lost: [0; 16],
 };
 
-// 17 of the list of a chain of n queues, and where it is silent the sum of each queue's entries.
-pub fn tallied(n: u32, losses: Losses) -> Tally
+// The tokens that each queue lost by the list of a chain of n queues, or 17 of the list.
+pub fn tallied(n: u32, losses: &Losses) -> Result<[u64; 16], Refused>
     requires { Few n }
-    ensures { TallyGives n losses result }
+    ensures { TallyGives n losses.now result }
 {
     if LONGEST < losses.count {
-        return REFUSED;
+        return Err(REFUSED);
     }
-    let count = losses.count as usize;
     let mut lost: [u64; 16] = [0; 16];
-    let mut k = 0;
-    while k < count {
-        let e = losses.entries[k];
-        if n <= e.queue {
-            return REFUSED;
+    for loss in &losses.entries[..losses.count as usize] {
+        if n <= loss.queue {
+            return Err(REFUSED);
         }
-        lost[e.queue as usize] += e.tokens as u64;
-        k += 1;
+        lost[loss.queue as usize] += u64::from(loss.tokens);
     }
-    Tally {
-        number: 0,
-        place: 0,
-        lost: lost,
-    }
+    Ok(lost)
 }

@@ -1,4 +1,3 @@
-pub mod Signed
 pub mod CapacityLaws
 pub mod FiguresLaws
 pub mod LeastLaws

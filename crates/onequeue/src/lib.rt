@@ -31,24 +31,22 @@ pub fn least(q: Row) -> Shown
 {
     let last = q.threshold - 1;
     let minimum = last - last % q.g + q.produce;
-    let by = (q.threshold - q.consume + (q.produce - 1)) / q.produce + q.share;
-    Shown {
-        minimum: minimum,
-        by: by,
-    }
+    let by = (q.threshold - q.consume).div_ceil(q.produce) + q.share;
+    Shown { minimum, by }
 }
 
-// The capacity in force: the word as written, or the minimum where that is 0.
+// The capacity in force: the word as written, or the minimum where that is 0. The word is that of C's record, so no `Option`.
 pub fn capacity(written: u32, minimum: u32) -> u32
     ensures { result ≡ capacity written minimum }
 {
     if written == 0 { minimum } else { written }
 }
 
-// The margin: how far the capacity in force is above the minimum, negative where it is below.
+// The margin: how far the capacity in force is above the minimum, negative where it is below. Both casts are proved to lose
+// nothing; `try_from` would only add an error that cannot come.
 pub fn margin(capacity: u32, minimum: u32) -> i32
     requires { Within capacity minimum }
     ensures { result ≡ margin capacity minimum }
 {
-    (capacity as i32) - (minimum as i32)
+    capacity as i32 - minimum as i32
 }

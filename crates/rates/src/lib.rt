@@ -24,9 +24,9 @@ pub fn rate_after(q: Row, x: u32, y: u32) -> Rate
     let common = arith::gcd(x, q.share);
     let stretch = arith::quotient(q.share, common);
     Rate {
-        x: (arith::quotient(q.produce, q.g) as u64) * (arith::quotient(x, common) as u64),
-        y: (stretch as u64) * (y as u64),
-        stretch: stretch,
+        x: u64::from(arith::quotient(q.produce, q.g)) * u64::from(arith::quotient(x, common)),
+        y: u64::from(stretch) * u64::from(y),
+        stretch,
     }
 }
 
@@ -36,10 +36,6 @@ pub fn busy_after(busy: u64, stretch: u32, e: u32, x: u32, y: u32) -> u64
     requires { Small busy stretch e }
     ensures { result ≡ capped y (busy * stretch + e * x) }
 {
-    let sum = busy * (stretch as u64) + (e as u64) * (x as u64);
-    if (y as u64) < sum {
-        (y as u64) + 1
-    } else {
-        sum
-    }
+    let sum = busy * u64::from(stretch) + u64::from(e) * u64::from(x);
+    sum.min(u64::from(y) + 1)
 }

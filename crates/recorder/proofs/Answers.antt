@@ -1,146 +1,124 @@
 -- The answers of a recording tick and of a recording run, as their code puts them together.
 use mathlib.Core.Path.{◌≡◌, refl, sym, ap, ◌∙◌}
-use mathlib.Core.Logic.{◌≢◌}
 use mathlib.Core.List.{List}
-use Prim.Native.Nat.{ℕ, ◌+◌, ◌≤◌, ◌<◌}
+use Prim.Native.Nat.{ℕ, ◌+◌, ◌≤◌}
 use native.Mathlib.Nat.{zero-add}
 use native.Mathlib.Omega.{arith}
 use lib.ListN.{replicate}
+use Rattle.std.proofs.Common.{Result, Ok, Err, length}
 use Rattle.chain.specs.Faults.{Few}
-use Rattle.chain.specs.Refusals.{refused, or_else, Silent, silent_as, or_left, or_right}
-use Rattle.chain.specs.declared.Refusal.{Refusal}
+use Rattle.chain.specs.Refusals.{fine, or_else, Silent, silent_as, or_left, or_right}
+use Rattle.chain.specs.Refusal.{Refusal}
+use Rattle.chain.specs.Said.{refusal, speaks}
 use Rattle.chain.specs.declared.Chain.{Chain}
+use Rattle.chain.specs.declared.reasons.Refused.{Refused}
 use Rattle.sizing.specs.Accepted.{Accepted}
-use Rattle.sizing.proofs.AcceptedLaws.{analyse_accepts}
 use Rattle.sizing.specs.Plan.{SizedPlans}
 use Rattle.state.specs.State.{empty_run, fresh_run}
 use Rattle.state.specs.Fired.{accounted}
-use Rattle.state.specs.Checks.{state_check_with, lent_run, Planned, Accountable, planned_sized}
-use Rattle.state.proofs.ChecksLaws.{state_lent_with, state_sums}
+use Rattle.state.specs.Checks.{state_check_with, Planned, Accountable, planned_sized}
+use Rattle.state.proofs.ChecksLaws.{state_sums}
 use Rattle.state.specs.declared.Run.{Run}
 use Rattle.flow.specs.Flow.{Shows}
 use Rattle.flow.specs.Poured.{Showing}
-use Rattle.instants.specs.Checks.{longest, clock_check, spent_check}
-use Rattle.instants.proofs.RefusalsLaws.{length_exact}
+use Rattle.instants.specs.Checks.{longest, length_check, clock_check, spent_check}
 use Rattle.instants.specs.Filled.{Filled}
 use Rattle.losses.specs.Losses.{empty_losses, Listed, listed_empty}
 use Rattle.losses.specs.Tally.{TallyGives}
 use Rattle.losses.specs.declared.Losses.{Losses}
-use Rattle.losses.specs.declared.Tally.{Tally}
 use Rattle.recordings.specs.Steps.{rec_clean, rec_onward, rec_tick, rec_ticks}
 use Rattle.recordings.proofs.RunsLaws.{rec_onward_goes, rec_ticks_none, rec_ticks_last, rec_run_is_ticks}
 use Rattle.recordings.specs.Checks.{rec_accounted, rec_state_check, rec_queues_check, recording_filled}
-use Rattle.recordings.specs.Answers.{rec_tick_refusal, rec_tick_answer, rec_run_refusal, rec_run_answer}
-use Rattle.recordings.specs.RecRefusals.{RecTicking, rec_ran_as, rec_refused_as}
-use Rattle.recordings.proofs.RecRefusalsLaws.{rec_ticking_is, rec_tick_parts, rec_tick_ran, rec_tick_refused, rec_run_parts, rec_run_accepts, rec_run_ran, rec_run_refused}
+use Rattle.recordings.specs.Answers.{rec_answer_of, rec_tick_refusal, rec_tick_answer, rec_run_refusal, rec_run_answer}
+use Rattle.recordings.specs.RecRefusals.{RecTicking, rec_ran_as}
+use Rattle.recordings.proofs.RecRefusalsLaws.{rec_answer_refused, rec_ticking_is, rec_tick_parts, rec_tick_ran, rec_run_parts, rec_run_accepts, rec_run_ran}
 use Rattle.ticks.specs.Runs.{LendsIn, RanGives, lent_once, lends_once, lent_fresh, lends_fresh}
 use Rattle.recordings.specs.declared.Recorded.{Recorded}
-use Rattle.recordings.specs.declared.RecordAnswer.{RecordAnswer}
-use Rattle.ticks.specs.declared.Ended.{Ended}
-use Rattle.recorder.specs.Joined.{JoinedGives, Carries, carries_gives, carries_unlost}
-use Rattle.recorder.specs.Left.{DamageGives, rec_refused_with, rec_left_by, rec_dated_as}
+use Rattle.recordings.specs.Answered.{recorded_said}
+use Rattle.steps.specs.declared.Halt.{Halt}
+use Rattle.recorder.specs.Joined.{JoinedGives, Carries, carries_gives}
+
+-- what an error is answered with
+pub error_told : (e : Refused) (s : Run) (l : Losses) (x : Recorded) → rec_answer_of (refusal e) s l x ≡ recorded_said s l (Err e)
+error_told e s l x = sym (rec_answer_refused (refusal e) s l x (speaks e))
+
+pub ruleset answering = (rec_tick_parts, rec_run_parts, error_told)
 
 -- the number of queues of a chain that has a plan
 pub few : {c : Chain} {p : List ℕ} → Planned c p → Few c.n
 few k = record { few = k.chain.count.1 }
 
--- the sums of a list are numbers that 17 of the queues can count
-pub sums_accountable : {c : Chain} {l : Losses} {p : List ℕ} → Planned c p → {t : Tally} → TallyGives c.n l t → Accountable c p t.lost
-sums_accountable k g = record { planned = k; few = λ i h. omega (arith, g.few i (omega (arith, k.chain.count.1))) }
-
 -- 17: of the list, or of the queues with its sums
-module _ (c : Chain) (s : Run) (l : Losses) {p : List ℕ} (k : Planned c p) {t : Tally} (g : TallyGives c.n l t) where
-  pub list_refuses : (t.number ≡ 0 → ⊥) → refused t.number t.place ≡ rec_state_check c s l
+module _ (c : Chain) (s : Run) (l : Losses) where
+  pub list_refuses : {e : Refused} → TallyGives c.n l (Err e) → refusal e ≡ rec_state_check c s l
   unfolding rec_state_check
-  list_refuses n = or_left (rec_queues_check c s l) g.says n
+  list_refuses {e} g = or_left (rec_queues_check c s l) g.says (speaks e)
 
-  pub queues_refuse : t.number ≡ 0 → {d : Refusal} → d ≡ state_check_with c (lent_run s.counts s.held s.done) t.lost → d ≡ rec_state_check c s l
-  unfolding rec_state_check rec_queues_check
-  queues_refuse z e = or_right g.says z (e ∙ state_lent_with c s t.lost ∙ state_sums c s t.lost (rec_accounted c s l)
-      (λ i h. ap (λ (x : ℕ). accounted c s i + x) (g.sums z i (omega (arith, k.chain.count.1)))))
+  module _ {p t : List ℕ} (k : Planned c p) (g : TallyGives c.n l (Ok t)) where
+    -- they are numbers that 17 can count
+    pub sums_accountable : Accountable c p t
+    sums_accountable = record { planned = k; few = λ i h. omega (arith, g.few i (omega (arith, k.chain.count.1))) }
+
+    pub queues_refuse : {d : Refusal} → d ≡ state_check_with c s t → d ≡ rec_state_check c s l
+    unfolding rec_state_check rec_queues_check
+    queues_refuse e = or_right g.says refl (e ∙ state_sums c s t (rec_accounted c s l) (λ i h. ap (λ (x : ℕ). accounted c s i + x) (g.sums i (omega (arith, k.chain.count.1)))))
+
+pub ruleset damages = (few, list_refuses, sums_accountable, queues_refuse)
 
 -- one recording tick is so many
 rec_ticks_one : (c : Chain) (s : Run) (l : Losses) → rec_ticks c 1 s l ≡ rec_tick c s l
 rec_ticks_one c s l = rec_ticks_last c 0 s l ∙ ap (λ (x : Recorded). rec_onward x (rec_tick c)) (rec_ticks_none c s l) ∙ rec_onward_goes (rec_clean s l) (rec_tick c) refl
 
 -- a recording tick
-module _ (c : Chain) (s : Run) (l : Losses) where
-  -- what is refused is answered so, with the state and the list as they were
-  tick_back : {r : Refusal} → r ≡ rec_tick_refusal c s l → (Silent r → ⊥) → rec_refused_with r.number r.place s l ≡ rec_tick_answer c s l
-  tick_back {r} f n = ap (λ (q : Refusal). rec_refused_as q s l) f ∙ sym (rec_tick_refused c s l (λ z. n (silent_as (sym f) z)))
+module _ (c : Chain) (s : Run) (l : Losses) (long : length l.entries ≡ 256) {p : List ℕ} {u : Unit} (e : SizedPlans c p (Ok u)) (f : fine ≡ rec_state_check c s l)
+    (g : fine ≡ or_else (clock_check s) (spent_check c s)) {o : List ℕ} (shown : Showing o c s) where
+  accepts : Silent (rec_tick_refusal c s l)
+  accepts = silent_as (or_right e.says refl (or_right f refl g) ∙ sym (rec_tick_parts c s l)) refl
 
-  module _ {p : List ℕ} {w : Refusal} (e : SizedPlans c p w) where
-    pub tick_chain_refuses : (Silent w → ⊥) → rec_refused_with w.number w.place s l ≡ rec_tick_answer c s l
-    tick_chain_refuses n = tick_back (or_left _ e.says n ∙ sym (rec_tick_parts c s l)) n
+  ticking : RecTicking c s l
+  ticking = (rec_ticking_is c s l).0 accepts
 
-    module _ (z : Silent w) {d : Refusal} (f : DamageGives c s l d) where
-      pub tick_state_refuses : (Silent d → ⊥) → rec_refused_with d.number d.place s l ≡ rec_tick_answer c s l
-      tick_state_refuses n = tick_back (or_right e.says z (or_left _ f.says n) ∙ sym (rec_tick_parts c s l)) n
+  listed : Listed l
+  listed = record { long = long; short = ticking.sound.short }
 
-      module _ (y : Silent d) {m : Refusal} (g : m ≡ or_else (clock_check s) (spent_check c s)) where
-        whole : m ≡ rec_tick_refusal c s l
-        whole = or_right e.says z (or_right f.says y g) ∙ sym (rec_tick_parts c s l)
+  filled : Filled c s
+  filled = recording_filled (record {
+    chain = ticking.chain;
+    whole = record { counts = shown.typed.counts; held = shown.typed.held; done = shown.typed.done };
+    listed = listed;
+    sound = ticking.sound;
+  })
 
-        pub tick_late : (Silent m → ⊥) → rec_refused_with m.number m.place s l ≡ rec_tick_answer c s l
-        tick_late n = tick_back whole n
+  pub tick_carries : Carries p o s.done l s.clock 1
+  tick_carries = record { lends = lends_once (planned_sized e refl).plans shown filled ticking.clock ticking.countable; listed = listed }
 
-        module _ (q : Silent m) {o : List ℕ} (v : Showing o c s) where
-          ticking : RecTicking c s l
-          ticking = (rec_ticking_is c s l).0 (silent_as whole q)
+  lent : LendsIn p o s.done s.clock 1 c s
+  lent = lent_once (planned_sized e refl).plans shown filled ticking.clock ticking.countable
 
-          listed : Listed l
-          listed = record { long = f.long; short = ticking.sound.short }
+  ran_once : {x : Recorded} → x ≡ rec_ticks c 1 s l → recorded_said s l (Ok x) ≡ rec_tick_answer c s l
+  ran_once h = ap rec_ran_as (h ∙ rec_ticks_one c s l) ∙ sym (rec_tick_ran c s l accepts)
 
-          filled : Filled c s
-          filled = recording_filled (record {
-            chain = ticking.chain;
-            whole = record { counts = v.typed.counts; held = v.typed.held; done = v.typed.done };
-            listed = listed;
-            sound = ticking.sound;
-          })
-
-          pub tick_carries : Carries p o s.done l s.clock 1
-          tick_carries = record { lends = lends_once (planned_sized e z).plans v filled ticking.clock ticking.countable; listed = listed }
-
-          lent : LendsIn p o s.done s.clock 1 c s
-          lent = lent_once (planned_sized e z).plans v filled ticking.clock ticking.countable
-
-          ran_once : rec_ran_as (rec_ticks c 1 s l) ≡ rec_tick_answer c s l
-          ran_once = ap rec_ran_as (rec_ticks_one c s l) ∙ sym (rec_tick_ran c s l (silent_as whole q))
-
-          module _ {u x : List ℕ} {r : Ended} (t : RanGives p o s.done s.clock 1 u x r) where
-            pub tick_unlost : r.kind ≢ 1 → rec_left_by u x r.tick (rec_dated_as r.kind r.tick r.at) l ≡ rec_tick_answer c s l
-            tick_unlost n = carries_unlost refl tick_carries t n lent ∙ ran_once
-
-            pub tick_answers : {a : RecordAnswer} → JoinedGives p u x l (s.clock + 1) r a → a ≡ rec_tick_answer c s l
-            tick_answers j = carries_gives refl tick_carries t j lent ∙ ran_once
+  module _ {q x : List ℕ} {r : Result ℕ Halt} (t : RanGives p o s.done s.clock 1 q x r) where
+    pub tick_answers : {a : Recorded} → JoinedGives p q x l (s.clock + 1) r a → recorded_said s l (Ok a) ≡ rec_tick_answer c s l
+    tick_answers j = ran_once (carries_gives refl tick_carries t j lent)
 
 -- a recording run
-module _ (c : Chain) (T : ℕ) where
-  run_back : {r : Refusal} → r ≡ rec_run_refusal c T → (Silent r → ⊥) → rec_refused_with r.number r.place empty_run empty_losses ≡ rec_run_answer c T
-  run_back {r} f n = ap (λ (q : Refusal). rec_refused_as q empty_run empty_losses) f ∙ sym (rec_run_refused c T (λ z. n (silent_as (sym f) z)))
+module _ (c : Chain) (T : ℕ) {p : List ℕ} {u : Unit} (e : SizedPlans c p (Ok u)) (g : fine ≡ length_check T) {f : List ℕ} (y : Shows f c (fresh_run c)) where
+  fine_run : Silent (rec_run_refusal c T)
+  fine_run = silent_as (or_right e.says refl g ∙ sym (rec_run_parts c T)) refl
 
-  module _ {p : List ℕ} {w : Refusal} (e : SizedPlans c p w) where
-    pub run_chain_refuses : (Silent w → ⊥) → rec_refused_with w.number w.place empty_run empty_losses ≡ rec_run_answer c T
-    run_chain_refuses n = run_back (or_left _ e.says n ∙ sym (rec_run_parts c T)) n
+  allowed : Accepted c × (T ≤ longest)
+  allowed = (rec_run_accepts c T).0 fine_run
 
-    module _ (z : Silent w) where
-      pub run_long : longest < T → rec_refused_with 9 0 empty_run empty_losses ≡ rec_run_answer c T
-      run_long h = run_back {r = refused 9 0} (or_right e.says z (sym ((length_exact T 0).1 (h, refl))) ∙ sym (rec_run_parts c T)) (λ y. absurd (omega arith))
+  pub run_carries : Carries p f (replicate 16 0) empty_losses 0 T
+  run_carries = record { lends = lends_fresh (planned_sized e refl).plans y allowed.0 allowed.1; listed = listed_empty }
 
-      module _ (short : T ≤ longest) {f : List ℕ} (y : Shows f c (fresh_run c)) where
-        accepted : Accepted c
-        accepted = (analyse_accepts c).0 (silent_as e.says z)
+  fresh : LendsIn p f (replicate 16 0) 0 T c (fresh_run c)
+  fresh = lent_fresh (planned_sized e refl).plans y allowed.0 allowed.1
 
-        pub run_carries : Carries p f (replicate 16 0) empty_losses 0 T
-        run_carries = record { lends = lends_fresh (planned_sized e z).plans y accepted short; listed = listed_empty }
+  ran : {x : Recorded} → x ≡ rec_ticks c T (fresh_run c) empty_losses → recorded_said empty_run empty_losses (Ok x) ≡ rec_run_answer c T
+  ran h = ap rec_ran_as (h ∙ sym (rec_run_is_ticks allowed.0 T empty_losses)) ∙ sym (rec_run_ran c T fine_run)
 
-        ran : rec_ran_as (rec_ticks c T (fresh_run c) empty_losses) ≡ rec_run_answer c T
-        ran = ap rec_ran_as (sym (rec_run_is_ticks accepted T empty_losses)) ∙ sym (rec_run_ran c T ((rec_run_accepts c T).1 (accepted, short)))
-
-        module _ {u x : List ℕ} {r : Ended} (t : RanGives p f (replicate 16 0) 0 T u x r) where
-          pub run_unlost : r.kind ≢ 1 → rec_left_by u x r.tick (rec_dated_as r.kind r.tick r.at) empty_losses ≡ rec_run_answer c T
-          run_unlost n = carries_unlost refl run_carries t n (lent_fresh (planned_sized e z).plans y accepted short) ∙ ran
-
-          pub run_answers : {a : RecordAnswer} → JoinedGives p u x empty_losses T r a → a ≡ rec_run_answer c T
-          run_answers j = carries_gives (sym (zero-add T)) run_carries t j (lent_fresh (planned_sized e z).plans y accepted short) ∙ ran
+  module _ {q x : List ℕ} {r : Result ℕ Halt} (t : RanGives p f (replicate 16 0) 0 T q x r) where
+    pub run_answers : {a : Recorded} → JoinedGives p q x empty_losses T r a → recorded_said empty_run empty_losses (Ok a) ≡ rec_run_answer c T
+    run_answers j = ran (carries_gives (sym (zero-add T)) run_carries t j fresh)

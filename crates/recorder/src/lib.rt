@@ -2,233 +2,211 @@
 // are joined by losses: where a production does not fit, its loss is noted, the rest of its tick is made, and the ticks go on.
 #![tactic(auto)]
 
-ghost use Rattle.std.specs.Prelude.{◌≡◌, ◌≤◌};
+ghost use Rattle.std.specs.Prelude.{◌≡◌};
 ghost use Rattle.state.specs.Checks.{Planned};
+ghost use Rattle.chain.specs.Said.{said};
+ghost use Rattle.recordings.specs.Checks.{rec_state_check};
 ghost use Rattle.recordings.specs.Answers.{rec_tick_answer, rec_run_answer};
-ghost use Rattle.recorder.specs.Halted.{Halts, Overflows, LostGives, OnwardGives};
+ghost use Rattle.recorder.specs.Halted.{overflow_in, undated_in, Halts, Overflows, LostGives, OnwardGives};
 ghost use Rattle.recorder.specs.Joined.{Joins, JoinedGives};
-ghost use Rattle.recorder.specs.Left.{DamageGives, rec_refused_with, rec_dated_as, rec_left_by};
+ghost use Rattle.recorder.specs.Left.{rec_left_by, rec_outcome_in, run_left_by};
+ghost use Rattle.state.specs.State.{empty_run};
+ghost use Rattle.losses.specs.Losses.{empty_losses};
+ghost use Rattle.recordings.specs.Answered.{recorded_said};
 
-use chain::{Chain, Refusal};
+use chain::{Chain, Reason, Refused};
 use flow::{LENGTH, PRODUCE};
 use losses::{Loss, Losses};
-use recordings::{RecordAnswer, RecordOutcome};
+use recordings::{RecordOutcome, Recorded};
 use sizing::PLAN;
 use state::Run;
-use steps::{CLEAN, NO_DEADLINE, OVERFLOWED};
-use ticks::Ended;
+use steps::Halt;
 
-// One recording tick: how it ended with the state and the list after it, or both as they were with the first of 2, 4, 5, 6,
-// 7, 17 and 9 that refuses it.
-pub fn recording_tick(chain: Chain, run: Run, losses: Losses) -> RecordAnswer
-    ensures { result ≡ rec_tick_answer chain run losses }
+// One recording tick: how it ended with the state and the list after it, or the first of 2, 4, 5, 6, 7, 17 and 9 that
+// refuses it.
+#[tactic(auto, using(chain::proofs::Passing::passing, crate::proofs::Answers::answering), unfolding(recordings::specs::Answers::rec_tick_answer))]
+pub fn recording_tick(chain: Chain, run: Run, mut losses: Losses) -> Result<Recorded, Refused>
+    ensures { recorded_said run losses result ≡ rec_tick_answer chain run losses }
 {
     let mut plan = [0; PLAN];
-    let wrong = sizing::planned(chain, &mut plan);
-    if wrong.number != 0 {
-        return refused(wrong.number, wrong.place, run, losses);
-    }
-    let broken = damage(chain, &plan, run, losses);
-    if broken.number != 0 {
-        return refused(broken.number, broken.place, run, losses);
-    }
-    let late = ticks::late_check(chain, run);
-    if late.number != 0 {
-        return refused(late.number, late.place, run, losses);
-    }
-    let mut flow = flow::showing(chain, run);
+    sizing::planned(chain, &mut plan)?;
+    damage(&chain, &plan, &run, &losses)?;
+    ticks::late_check(&chain, &run)?;
+    let mut flow = flow::showing(&chain, &run);
     let mut done = run.done;
     let first = ticks::passes(&plan, &mut flow, &mut done, run.clock, 1);
-    if first.kind != OVERFLOWED {
-        return concluded(&flow, &done, first, losses);
-    }
-    joined(&plan, &mut flow, &mut done, losses, first, run.clock + 1)
+    let ended = joined(
+        &plan,
+        &mut flow,
+        &mut done,
+        &mut losses,
+        first,
+        run.clock + 1,
+    );
+    Ok(Recorded {
+        outcome: outcome(ended),
+        run: left(&flow, &done, ended),
+        losses,
+    })
 }
 
 // A recording run of so many ticks from a fresh start: how it ended with the state and the list that it left, or the first of
 // 2, 4, 5, 6, 7 and 9 that refuses it.
-pub fn recording_run(chain: Chain, ticks: u32) -> RecordAnswer
-    ensures { result ≡ rec_run_answer chain ticks }
+#[tactic(auto, using(chain::proofs::Passing::passing, crate::proofs::Answers::answering), unfolding(recordings::specs::Answers::rec_run_answer))]
+pub fn recording_run(chain: Chain, ticks: u32) -> Result<Recorded, Refused>
+    ensures { recorded_said empty_run empty_losses result ≡ rec_run_answer chain ticks }
 {
     let mut plan = [0; PLAN];
-    let wrong = sizing::planned(chain, &mut plan);
-    if wrong.number != 0 {
-        return refused(wrong.number, wrong.place, state::EMPTY, losses::NONE);
-    }
-    if ticks::LONGEST < ticks {
-        return refused(9, 0, state::EMPTY, losses::NONE);
-    }
-    let mut flow = flow::started(chain);
+    sizing::planned(chain, &mut plan)?;
+    chain::test(Reason::RunTooLong, 0, ticks::LONGEST < ticks)?;
+    let mut flow = flow::started(&chain);
     let mut done = [0; 16];
     let first = ticks::passes(&plan, &mut flow, &mut done, 0, ticks);
-    if first.kind != OVERFLOWED {
-        return concluded(&flow, &done, first, losses::NONE);
-    }
-    joined(&plan, &mut flow, &mut done, losses::NONE, first, ticks)
-}
-
-// The answer of a refused call: the refusal, with the state and the list that the call gives then.
-fn refused(number: u32, place: u32, run: Run, losses: Losses) -> RecordAnswer
-    ensures { result ≡ rec_refused_with number place run losses }
-{
-    RecordAnswer {
-        number: number,
-        place: place,
-        outcome: RecordOutcome::Clean,
-        run: run,
-        losses: losses,
-    }
+    let mut list = losses::NONE;
+    let ended = joined(&plan, &mut flow, &mut done, &mut list, first, ticks);
+    Ok(Recorded {
+        outcome: outcome(ended),
+        run: left(&flow, &done, ended),
+        losses: list,
+    })
 }
 
 // 17 of a state with its list: of the list, and then of the lowest queue whose balance with the sum of its entries is broken,
 // whose capacity is passed, or whose consumer has all the work of a firing done.
-fn damage(chain: Chain, plan: &[u32; PLAN], run: Run, losses: Losses) -> Refusal
-    requires { Planned chain plan.now }
-    ensures { DamageGives chain run losses result }
+#[tactic(auto, using(crate::proofs::Answers::damages))]
+fn damage(chain: &Chain, plan: &[u32; PLAN], run: &Run, losses: &Losses) -> Result<(), Refused>
+    requires { Planned chain.now plan.now }
+    ensures { said result ≡ rec_state_check chain.now run.now losses.now }
 {
-    let tally = losses::tallied(chain.n, losses);
-    if tally.number != 0 {
-        return Refusal {
-            number: tally.number,
-            place: tally.place,
-        };
-    }
-    state::state_check_with(chain, plan, &run.counts, &run.held, &run.done, &tally.lost)
+    let lost = losses::tallied(chain.n, losses)?;
+    state::state_check_with(chain, plan, run, &lost)
 }
 
-// What recording ticks leave that go on from where deadline ticks ended: a production that did not fit is lost, which goes
-// into the list, and deadline ticks follow up to clock `until`. So the list is at hand at each loss, and no tick copies it.
+// How recording ticks end that go on from where deadline ticks ended: a production that did not fit is lost, which goes into
+// the list, and deadline ticks follow up to clock `until`. The list is lent, so no loss copies it.
 fn joined(
     plan: &[u32; PLAN],
     flow: &mut [u32; LENGTH],
     done: &mut [u32; 16],
-    losses: Losses,
-    first: Ended,
+    list: &mut Losses,
+    first: Result<u32, Halt>,
     until: u32,
-) -> RecordAnswer
-    requires { Joins plan.now flow.old done.old losses until first }
-    ensures { JoinedGives plan.now flow.old done.old losses until first result }
+) -> Result<u32, Halt>
+    requires { Joins plan.now flow.old done.old list.old until first }
+    ensures { JoinedGives plan.now flow.old done.old list.old until first (rec_left_by flow.new done.new result list.new) }
 {
-    let mut list = losses;
     let mut ended = first;
-    while ended.kind == OVERFLOWED {
-        let tick = ended.tick;
-        let at = ended.at;
-        let queue = at as u32;
+    while let Some((tick, queue)) = overflow(ended) {
         if list.count == losses::LONGEST {
-            let full = RecordOutcome::ListFull {
-                tick: tick,
-                queue: queue,
-            };
-            return left(flow, done, tick, full, list);
+            return ended;
         }
-        let next = lost(plan, flow, done, tick, at);
-        if next.kind == NO_DEADLINE {
-            return concluded(flow, done, next, list);
+        let next = lost(plan, flow, done, tick, queue as usize);
+        if is_undated(next) {
+            return next;
         }
-        let slot = list.count as usize;
-        let tokens = flow[PRODUCE + at];
-        list.entries[slot] = Loss {
-            tick: tick,
-            queue: queue,
-            tokens: tokens,
+        let tokens = flow[PRODUCE + queue as usize];
+        list.entries[list.count as usize] = Loss {
+            tick,
+            queue,
+            tokens,
         };
         list.count += 1;
         ended = onward(plan, flow, done, next, until);
     }
-    concluded(flow, done, ended, list)
+    ended
 }
 
-// What is left of a tick whose production does not fit queue `at`, once that is lost. At the source 13 is tested before the
-// loss is made, since 13 takes it back, and then the tick of work follows; at a finish the firing takes effect without it.
+// The tick and the queue of the production that does not fit, where ticks ended with one. The check keeps nothing of a pattern
+// in a pattern that does not match, and so it stands in a function, as does the next.
+fn overflow(ended: Result<u32, Halt>) -> Option<(u32, u32)>
+    ensures { result ≡ overflow_in ended }
+{
+    match ended {
+        Err(Halt::Overflowed { tick, queue }) => Some((tick, queue)),
+        _ => None,
+    }
+}
+
+// Whether ticks ended with 13.
+fn is_undated(ended: Result<u32, Halt>) -> bool
+    ensures { result ≡ undated_in ended }
+{
+    match ended {
+        Err(Halt::NoDeadline { .. }) => true,
+        _ => false,
+    }
+}
+
+// What is left of a tick whose production does not fit queue `at`, once that is lost: the clock from which to go on. At the
+// source 13 is tested before the loss is made, since 13 takes it back, and then the tick of work follows; at a finish the
+// firing takes effect without it.
+#[tactic(auto, using(crate::specs::Lost::taking))]
 fn lost(
     plan: &[u32; PLAN],
     flow: &mut [u32; LENGTH],
     done: &mut [u32; 16],
     tick: u32,
     at: usize,
-) -> Ended
+) -> Result<u32, Halt>
     requires { Overflows plan.now flow.old done.old tick at }
     ensures { LostGives plan.now flow.old done.old tick at flow.new done.new result }
 {
     if 0 < at {
         flow::loss(flow, at);
         done[at - 1] = 0;
-        return ticks::ended_with(CLEAN, tick, 0);
+        return Ok(tick);
     }
     let due = steps::dues(plan, flow, false);
-    let without = steps::lacking(flow, &due);
-    if without != 0 {
-        return ticks::ended_with(NO_DEADLINE, tick, without);
+    if let Some(node) = steps::lacking(flow, &due) {
+        return Err(Halt::NoDeadline { tick, node });
     }
     let node = steps::chosen(flow, &due);
     flow::loss(flow, 0);
-    let step = steps::completed(plan, flow, done, node);
-    ticks::ended_with(step.kind, tick + 1, node)
+    steps::completed(plan, flow, done, tick + 1, node)?;
+    Ok(tick + 1)
 }
 
 // The ticks that follow a clean one up to clock `until`; any other outcome stands. After the last tick no deadline is asked
 // for, since the node that fired may have no next firing.
+#[tactic(auto, using(crate::specs::Lost::going_on))]
 fn onward(
     plan: &[u32; PLAN],
     flow: &mut [u32; LENGTH],
     done: &mut [u32; 16],
-    ended: Ended,
+    ended: Result<u32, Halt>,
     until: u32,
-) -> Ended
+) -> Result<u32, Halt>
     requires { Halts plan.now flow.old done.old until ended }
     ensures { OnwardGives plan.now flow.old done.old until ended flow.new done.new result }
 {
-    if ended.kind != CLEAN {
-        return ended;
+    let clock = ended?;
+    if until <= clock {
+        return Ok(clock);
     }
-    if until <= ended.tick {
-        return ended;
-    }
-    ticks::passes(plan, flow, done, ended.tick, until - ended.tick)
+    ticks::passes(plan, flow, done, clock, until - clock)
 }
 
-// What is left where ticks ended clean or without a deadline: the outcome, with the state and this list.
-fn concluded(flow: &[u32; LENGTH], done: &[u32; 16], ended: Ended, losses: Losses) -> RecordAnswer
-    requires { ended.at ≤ 16 }
-    ensures { result ≡ rec_left_by flow.now done.now ended.tick (rec_dated_as ended.kind ended.tick ended.at) losses }
+// How recording ticks ended: a production that does not fit ends them where the list is full.
+fn outcome(ended: Result<u32, Halt>) -> RecordOutcome
+    ensures { result ≡ rec_outcome_in ended }
 {
-    let outcome = dated(ended.kind, ended.tick, ended.at as u32);
-    left(flow, done, ended.tick, outcome, losses)
-}
-
-// The outcome of this code of deadline ticks that did not overflow, at this tick, with this node.
-fn dated(kind: u32, tick: u32, at: u32) -> RecordOutcome
-    ensures { result ≡ rec_dated_as kind tick at }
-{
-    if kind == CLEAN {
-        return RecordOutcome::Clean;
-    }
-    RecordOutcome::NoDeadline {
-        tick: tick,
-        node: at,
+    match ended {
+        Ok(_) => RecordOutcome::Clean,
+        Err(Halt::Overflowed { tick, queue }) => RecordOutcome::ListFull { tick, queue },
+        Err(Halt::NoDeadline { tick, node }) => RecordOutcome::NoDeadline { tick, node },
     }
 }
 
-// What is left with this outcome: the state that the flow shows, with this clock and the work done, and this list.
-fn left(
-    flow: &[u32; LENGTH],
-    done: &[u32; 16],
-    tick: u32,
-    outcome: RecordOutcome,
-    losses: Losses,
-) -> RecordAnswer
-    ensures { result ≡ rec_left_by flow.now done.now tick outcome losses }
+// The state that the flow shows where recording ticks ended so, with the clock and the work done.
+fn left(flow: &[u32; LENGTH], done: &[u32; 16], ended: Result<u32, Halt>) -> Run
+    ensures { result ≡ run_left_by flow.now done.now ended }
 {
     let mut run = flow::shown(flow);
+    run.clock = match ended {
+        Ok(clock) => clock,
+        Err(halt) => halt.tick(),
+    };
     let work = *done;
-    run.clock = tick;
     run.done = work;
-    RecordAnswer {
-        number: 0,
-        place: 0,
-        outcome: outcome,
-        run: run,
-        losses: losses,
-    }
+    run
 }

@@ -42,7 +42,7 @@ use Rattle.recordings.proofs.PacedLaws.{rec_tick_paced, rec_ticks_paced}
 use Rattle.recordings.specs.declared.RecordOutcome.{RecordOutcome}
 use Rattle.recordings.specs.declared.RecordOutcome.TheVariants.{Clean, NoDeadline, ListFull}
 use Rattle.recordings.specs.declared.Recorded.{Recorded}
-use Rattle.recordings.specs.declared.RecordAnswer.{RecordAnswer}
+use Rattle.recordings.specs.Answered.{RecordAnswer}
 use Rattle.recordings.specs.Along.{rec_left, ran_same, rec_begins, RecEnds, RecCleanStep, rec_carry_on, rec_ticks_from, carried}
 
 module _ (c : Chain) (s : Run) (l : Losses) (w : Whole s) (long : length l.entries ≡ 256) (ok : (rec_tick_answer c s l).number ≡ 0) where

@@ -21,7 +21,7 @@ use Rattle.std.specs.Prelude.{◌≡◌, ◌↔◌, ◌≢◌, ◌⊎◌, [], �
 use Rattle.std.proofs.Math.Path.{sym}
 use Rattle.std.proofs.Common.{arith, ne_eqb}
 use Rattle.chain.specs.Refusals.{refused, fine, or_else, first_fine, Silent, Silents, Numbered}
-use Rattle.chain.specs.declared.Refusal.{Refusal}
+use Rattle.chain.specs.Refusal.{Refusal}
 use Rattle.chain.specs.declared.Chain.{Chain}
 use Rattle.sizing.specs.Checks.{limit, analyse_checks, analyse_refusal, analyse_numbers}
 use Rattle.sizing.proofs.ChecksLaws.{analyse_numbered}

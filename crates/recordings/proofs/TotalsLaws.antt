@@ -16,7 +16,7 @@ use Rattle.recordings.specs.Fields.{rec_source_fires, rec_source_rests, rec_work
 use Rattle.recordings.specs.Along.{RecCleanStep}
 use Rattle.recordings.proofs.AlongLaws.{rec_run_may, rec_run_start, rec_at_clock, rec_along}
 use Rattle.recordings.specs.declared.RecordOutcome.TheVariants.{Clean}
-use Rattle.recordings.specs.declared.RecordAnswer.{RecordAnswer}
+use Rattle.recordings.specs.Answered.{RecordAnswer}
 use Rattle.recordings.specs.Totals.{RecWaits, rec_tick_total}
 
 -- a recording run that is not refused, and is clean

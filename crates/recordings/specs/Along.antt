@@ -21,7 +21,7 @@ use Rattle.recordings.specs.Exactly.{RecTickOnce}
 use Rattle.recordings.specs.declared.RecordOutcome.{RecordOutcome}
 use Rattle.recordings.specs.declared.RecordOutcome.TheVariants.{Clean, NoDeadline, ListFull}
 use Rattle.recordings.specs.declared.Recorded.{Recorded}
-use Rattle.recordings.specs.declared.RecordAnswer.{RecordAnswer}
+use Rattle.recordings.specs.Answered.{RecordAnswer}
 
 -- an outcome, and the state and the list that it leaves
 abbrev pub rec_left : RecordAnswer → Recorded

@@ -9,7 +9,7 @@
 --   late_run t, long_list      a state of clock t in which nothing has happened, and a list of 257 entries
 use Rattle.std.specs.Prelude.{cond, List, [], ◌∷◌, ◌++◌, ℕ, eqb, replicate}
 use Rattle.chain.specs.Refusals.{first}
-use Rattle.chain.specs.declared.Refusal.{Refusal}
+use Rattle.chain.specs.Refusal.{Refusal}
 use Rattle.chain.specs.declared.Chain.{Chain}
 use Rattle.sizing.specs.Checks.{analyse_checks, analyse_refusal}
 use Rattle.state.specs.State.{empty_run, fresh_run}
@@ -22,7 +22,7 @@ use Rattle.recordings.specs.Checks.{rec_state_check}
 use Rattle.recordings.specs.Traced.{rec_run}
 use Rattle.recordings.specs.declared.RecordOutcome.TheVariants.{Clean}
 use Rattle.recordings.specs.declared.Recorded.{Recorded}
-use Rattle.recordings.specs.declared.RecordAnswer.{RecordAnswer}
+use Rattle.recordings.specs.Answered.{RecordAnswer}
 
 -- the checks of an analysis, since "a recording run is not refused with 8", then 17 with the list, then both of 9
 abbrev pub rec_tick_checks : Chain → Run → Losses → List Refusal

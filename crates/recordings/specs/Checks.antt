@@ -14,7 +14,7 @@ use Rattle.std.proofs.Common.{sym, ◌∙◌, add-zero, arith}
 use Rattle.words.specs.Table.{tab}
 use Rattle.chain.specs.Refusals.{first, or_else}
 use Rattle.chain.specs.Record.{row_of, work_of}
-use Rattle.chain.specs.declared.Refusal.{Refusal}
+use Rattle.chain.specs.Refusal.{Refusal}
 use Rattle.chain.specs.declared.Chain.{Chain}
 use Rattle.onequeue.specs.Capacity.{capacity}
 use Rattle.onequeue.specs.Least.{least}

@@ -9,7 +9,7 @@
 use Rattle.std.specs.Prelude.{◌≡◌, ◌≢◌, List, [], ◌∷◌, ◌++◌, ℕ, ◌≤◌, ◌<◌}
 use Rattle.std.proofs.Common.{arith}
 use Rattle.chain.specs.Refusals.{refused, Others, number_of, said_earlier}
-use Rattle.chain.specs.declared.Refusal.{Refusal}
+use Rattle.chain.specs.Refusal.{Refusal}
 use Rattle.chain.specs.declared.Chain.{Chain}
 use Rattle.sizing.specs.Checks.{limit, analyse_checks, analyse_refusal, analyse_numbers}
 use Rattle.sizing.proofs.ChecksLaws.{analyse_numbered}
@@ -21,7 +21,7 @@ use Rattle.losses.specs.declared.Losses.{Losses}
 use Rattle.recordings.specs.Checks.{RecSound}
 use Rattle.recordings.specs.declared.RecordOutcome.TheVariants.{Clean}
 use Rattle.recordings.specs.declared.Recorded.{Recorded}
-use Rattle.recordings.specs.declared.RecordAnswer.{RecordAnswer}
+use Rattle.recordings.specs.Answered.{RecordAnswer}
 
 -- the numbers of the checks of a recording tick and of a recording run, in order: no 8
 abbrev pub rec_tick_numbers : List ℕ

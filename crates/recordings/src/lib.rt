@@ -20,13 +20,3 @@ pub struct Recorded {
     pub run: Run,
     pub losses: Losses,
 }
-
-// An outcome with the state and the list that it leaves, beside the refusal that the call ended with, if any.
-#[derive(Clone, Copy)]
-pub struct RecordAnswer {
-    pub number: u32,
-    pub place: u32,
-    pub outcome: RecordOutcome,
-    pub run: Run,
-    pub losses: Losses,
-}

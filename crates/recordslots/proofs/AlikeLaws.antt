@@ -13,7 +13,7 @@ use Rattle.std.proofs.Math.Path.{ap₂}
 use Prim.Native.Nat.{ℕ, zero, suc, ◌≤◌}
 use Rattle.std.proofs.Math.Dec.{eqb, ltb}
 use Rattle.words.specs.declared.Queue.{Queue}
-use Rattle.chain.specs.declared.Refusal.{Refusal}
+use Rattle.chain.specs.Refusal.{Refusal}
 use Rattle.chain.specs.declared.Chain.{Chain}
 use Rattle.state.specs.declared.Run.{Run}
 use Rattle.slots.specs.Chains.{AlikeChains}

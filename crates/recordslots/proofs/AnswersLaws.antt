@@ -13,7 +13,7 @@
 use Rattle.std.specs.Prelude.{◌≡◌, refl, Bool, true, false, cond, ℕ, ◌≤◌, eqb, leb, length}
 use Rattle.std.proofs.Common.{sym, ◌∙◌}
 use Rattle.chain.specs.Refusals.{test, or_else}
-use Rattle.chain.specs.declared.Refusal.{Refusal}
+use Rattle.chain.specs.Refusal.{Refusal}
 use Rattle.chain.specs.declared.Chain.{Chain}
 use Rattle.state.specs.State.{empty_run, fresh_empty}
 use Rattle.state.specs.declared.Run.{Run}

@@ -6,7 +6,7 @@
 use Rattle.std.specs.Prelude.{◌≡◌, Bool, true, false, cond, ℕ, eqb}
 use Rattle.std.proofs.Common.{sym, ap, ◌∙◌}
 use Rattle.chain.specs.Refusals.{or_else}
-use Rattle.chain.specs.declared.Refusal.{Refusal}
+use Rattle.chain.specs.Refusal.{Refusal}
 use Rattle.chain.specs.declared.Chain.{Chain}
 use Rattle.state.specs.declared.Run.{Run}
 use Rattle.slots.specs.Chains.{AlikeChains}
@@ -18,7 +18,7 @@ use Rattle.losses.specs.declared.Losses.{Losses}
 use Rattle.recordings.specs.Answers.{rec_run_refusal, rec_answer_of}
 use Rattle.recordings.proofs.RecRefusalsLaws.{rec_run_parts}
 use Rattle.recordings.specs.declared.Recorded.{Recorded}
-use Rattle.recordings.specs.declared.RecordAnswer.{RecordAnswer}
+use Rattle.recordings.specs.Answered.{RecordAnswer}
 use Rattle.tickslots.specs.Slots.{KeptSlots}
 use Rattle.tickslots.proofs.SlotsLaws.{kept_refl}
 use Rattle.recordslots.specs.Lists.{AlikeLosses, KeptRecorded}

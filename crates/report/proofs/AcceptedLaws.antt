@@ -4,17 +4,15 @@
 --   report_written   and then answers the report's length; the lent bytes become the report and, past it, stay as they were
 --   report_as_read, _analysed, _room
 --                    the call says what the reader says of the file; where that is nothing, what the analysis says of its chain; and where that is nothing, 10 or nothing
-use Rattle.std.proofs.Math.Logic.Iff
 use Rattle.std.specs.Prelude.{◌≡◌, true, ◌↔◌, ◌≢◌, List, ◌++◌, ℕ, ◌≤◌, length, drop}
 use Rattle.std.proofs.Math.Path.{refl, sym}
-use Rattle.std.proofs.Common.{◌∙◌, arith}
-use Rattle.chain.specs.Tests.{below_false}
-use Rattle.chain.specs.Refusals.{fine, Silent, silent_as, first_fine, or_left, or_right, or_silents, test_silent}
+use Rattle.std.proofs.Common.{◌∙◌}
+use Rattle.chain.specs.Refusals.{fine, Silent, silent_as, first_fine, or_left, or_right, or_silents}
 use Rattle.chain.proofs.SoundLaws.{sound}
 use Rattle.chainfile.specs.File.{chain_of, read_refusal}
 use Rattle.chainfile.specs.Accepted.{AcceptedFile}
 use Rattle.chainfile.proofs.AcceptedLaws.{read_accepts}
-use Rattle.chainfile.specs.Packed.{written, room_check, Output, output_fine}
+use Rattle.chainfile.specs.Packed.{written, room_check, room_silent, Output, output_fine}
 use Rattle.chainfile.specs.declared.LengthAnswer.{LengthAnswer}
 use Rattle.sizing.specs.Checks.{analyse_refusal}
 use Rattle.sizing.proofs.ChecksLaws.{analyse_parts}
@@ -27,9 +25,6 @@ use Rattle.report.specs.Checks.{report_text, report_checks, size_refusal, report
 use Rattle.report.proofs.ChecksLaws.{report_parts}
 
 module _ (f : List ℕ) (room : ℕ) where
-  fits : Silent (room_check (length (report_text f)) room) ↔ (length (report_text f) ≤ room)
-  fits = Iff.trans (test_silent 10 _ (λ e. omega arith) _) (below_false room (length (report_text f)))
-
   pub report_accepts : Silent (report_refusal f room) ↔ (AcceptedFile f × (Accepted (chain_of f) × (length (report_text f) ≤ room)))
   unfolding size_refusal
   report_accepts = (out, back)
@@ -39,12 +34,12 @@ module _ (f : List ℕ) (room : ℕ) where
           let parts = (or_silents _ _).0 (silent_as (report_parts f room) z) in
           let rest = (or_silents _ _).0 parts.1 in
           let file = (read_accepts f).0 parts.0 in
-          (file, ((size_accepts (chain_of f)).0 (file.chain, rest.0), fits.0 rest.1))
+          (file, ((size_accepts (chain_of f)).0 (file.chain, rest.0), (room_silent _ _).0 rest.1))
 
       back : AcceptedFile f × (Accepted (chain_of f) × (length (report_text f) ≤ room)) → Silent (report_refusal f room)
       back h =
           let own = ((size_accepts (chain_of f)).1 h.1.0).1 in
-          silent_as (sym (report_parts f room)) ((or_silents _ _).1 ((read_accepts f).1 h.0, (or_silents _ _).1 (own, fits.1 h.1.1)))
+          silent_as (sym (report_parts f room)) ((or_silents _ _).1 ((read_accepts f).1 h.0, (or_silents _ _).1 (own, (room_silent _ _).1 h.1.1)))
 
   pub report_fine : Silent (report_refusal f room) → report_refusal f room ≡ fine
   unfolding report_refusal

@@ -4,14 +4,14 @@
 --   report_roomy   with that room the report call says what these say
 use Rattle.std.specs.Prelude.{◌≡◌, List, ℕ, ◌≤◌}
 use Rattle.std.proofs.Math.Path.{refl, sym}
-use Rattle.std.proofs.Common.{◌∙◌, arith, le-ltb}
+use Rattle.std.proofs.Common.{◌∙◌, arith}
 use Rattle.std.proofs.Math.Logic.{by_cases}
 use Rattle.std.proofs.Math.Decide.{ℕ_discrete}
 use Rattle.std.proofs.Math.ListN.{length}
 use Rattle.chain.specs.Refusals.{refused, fine, or_else, Silent, Silents, first_silent, first_fine, or_left, or_right}
 use Rattle.chainfile.specs.File.{chain_of, read_checks, read_refusal}
 use Rattle.chainfile.proofs.AcceptedLaws.{read_accepts}
-use Rattle.chainfile.specs.Packed.{room_check}
+use Rattle.chainfile.specs.Packed.{room_check, room_enough}
 use Rattle.sizing.specs.Checks.{size_checks}
 use Rattle.sizing.proofs.AcceptedLaws.{size_accepts}
 use Rattle.reporttext.specs.Short.{longest_report}
@@ -35,8 +35,7 @@ module _ (f : List ℕ) (room : ℕ) (l : longest_report ≤ room) where
   unfolding size_refusal
   passes r z =
       let accepted = (size_accepts (chain_of f)).0 (((read_accepts f).0 r).chain, z) in
-      let fits : length (report_text f) ≤ room = omega (arith, report_short (chain_of f) accepted) in
-      simp (le-ltb _ _ fits)
+      room_enough _ _ (omega (arith, report_short (chain_of f) accepted))
 
   -- behind the reader, 10 adds nothing
   behind : Silent (read_refusal f) → or_else (size_refusal f) (room_check (length (report_text f)) room) ≡ size_refusal f

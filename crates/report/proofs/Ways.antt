@@ -1,71 +1,72 @@
 -- The report call's ways out, as its code has them: the reader refuses; 6 or 7 does; or the text of the analysis is written.
-use mathlib.Core.Path.{◌≡◌, refl, sym, ap, ◌∙◌}
-use mathlib.Core.List.{List}
-use Prim.Native.Nat.{ℕ}
-use borrow.Author.Tests.{eq-eqb}
-use lib.ListN.{length}
-use Rattle.chain.specs.Refusals.{refused, first, Silent, or_left, or_right}
+use Rattle.std.specs.Prelude.{◌≡◌, List, ℕ, length}
+use Rattle.std.proofs.Common.{Ok, Err, refl, sym, ap, ◌∙◌}
+use Rattle.chain.specs.Refusals.{refused, fine, first, or_left, or_right, silent_as}
 use Rattle.chain.specs.Record.{answered}
+use Rattle.chain.specs.Said.{chain_said, refusal, speaks}
 use Rattle.chain.specs.Sound.{Sound}
 use Rattle.chain.specs.Faults.{Few}
-use Rattle.chain.specs.declared.Refusal.{Refusal}
 use Rattle.chain.specs.declared.Chain.{Chain}
 use Rattle.chain.specs.declared.ChainAnswer.{ChainAnswer}
+use Rattle.chain.specs.declared.reasons.Refused.{Refused}
 use Rattle.chainfile.specs.File.{chain_of, read_refusal, read_answer}
 use Rattle.chainfile.proofs.AcceptedLaws.{read_accepts}
-use Rattle.chainfile.specs.Packed.{room_check, not_written, Output}
+use Rattle.chainfile.specs.Packed.{room_check, Output}
 use Rattle.chainfile.specs.declared.LengthAnswer.{LengthAnswer}
-use Rattle.chainfile.proofs.Writing.{output_refused}
-use Rattle.sizing.specs.Sizes.{analysis_of, sized}
+use Rattle.sizing.specs.Sizes.{analysis_of, analysis_said, sized}
 use Rattle.sizing.specs.Checks.{size_checks}
+use Rattle.sizing.specs.declared.Analysis.{Analysis}
 use Rattle.sizing.specs.declared.AnalysisAnswer.{AnalysisAnswer}
 use Rattle.reporttext.specs.Text.{text_of}
 use Rattle.report.specs.Checks.{report_text, size_refusal, report_refusal}
 use Rattle.report.proofs.ChecksLaws.{report_parts}
 
--- the reader has answered for f, and then the sizing
-module _ (f : List ℕ) {a : ChainAnswer} (is : a ≡ read_answer f) where
-  read_says : refused a.number a.place ≡ read_refusal f
+module _ (f : List ℕ) where
+  pub read_refused : (room : ℕ) (e : Refused) → chain_said (Err e) ≡ read_answer f → refusal e ≡ report_refusal f room
   unfolding read_answer answered
-  read_says = ap (λ (x : ChainAnswer). refused x.number x.place) is
+  read_refused room e is =
+      let says : refusal e ≡ read_refusal f = ap (λ (x : ChainAnswer). refused x.number x.place) is in
+      or_left _ says (speaks e) ∙ sym (report_parts f room)
 
-  pub read_refused : {o : List ℕ} {r : LengthAnswer} → (a.number ≡ 0 → ⊥) → r ≡ not_written a.number a.place → Output (report_refusal f (length o)) (report_text f) o o r
-  read_refused {o} n e = output_refused (report_text f) o (or_left _ read_says n ∙ sym (report_parts f (length o))) n e
-
-  module _ (z : a.number ≡ 0) where
-    read_silent : Silent (read_refusal f)
-    read_silent = sym (ap (λ (x : Refusal). x.number) read_says) ∙ z
-
-    read_chain : a.chain ≡ chain_of f
+  -- the reader has a chain
+  module _ (c : Chain) (is : chain_said (Ok c) ≡ read_answer f) where
+    read_fine : fine ≡ read_refusal f
     unfolding read_answer answered
-    read_chain = ap (λ (x : ChainAnswer). x.chain) is ∙ simp (eq-eqb _ _ read_silent)
+    read_fine = ap (λ (x : ChainAnswer). refused x.number x.place) is
 
-    pub read_sound : Sound a.chain
-    read_sound = rw read_chain ((read_accepts f).0 read_silent).chain
+    read_chain : c ≡ chain_of f
+    unfolding read_answer answered
+    read_chain = ap (λ (x : ChainAnswer). x.chain) (rw (← read_fine) at is)
 
-    module _ {s : AnalysisAnswer} (made : s ≡ sized (first (size_checks a.chain)) a.chain) where
-      size_says : refused s.number s.place ≡ size_refusal f
-      unfolding sized size_refusal
-      size_says = ap (λ (x : AnalysisAnswer). refused x.number x.place) made ∙ ap (λ (c : Chain). first (size_checks c)) read_chain
+    pub read_sound : Sound c
+    read_sound = rw read_chain ((read_accepts f).0 (silent_as read_fine refl)).chain
 
-      pub size_refused : {o : List ℕ} {r : LengthAnswer} → (s.number ≡ 0 → ⊥) → r ≡ not_written s.number s.place → Output (report_refusal f (length o)) (report_text f) o o r
-      size_refused {o} n e = output_refused (report_text f) o (or_right read_says z (or_left _ size_says n) ∙ sym (report_parts f (length o))) n e
+    size_is : first (size_checks c) ≡ size_refusal f
+    unfolding size_refusal
+    size_is = ap (λ (k : Chain). first (size_checks k)) read_chain
 
-      module _ (y : s.number ≡ 0) where
-        size_silent : Silent (first (size_checks a.chain))
-        unfolding sized
-        size_silent = sym (ap (λ (x : AnalysisAnswer). x.number) made) ∙ y
+    pub size_refused : (room : ℕ) (e : Refused) → analysis_said (Err e) ≡ sized (first (size_checks c)) c → refusal e ≡ report_refusal f room
+    unfolding sized
+    size_refused room e made =
+        let says : refusal e ≡ first (size_checks c) = ap (λ (x : AnalysisAnswer). refused x.number x.place) made in
+        or_right read_fine refl (or_left _ (says ∙ size_is) (speaks e)) ∙ sym (report_parts f room)
 
-        size_analysis : s.analysis ≡ analysis_of (chain_of f)
-        unfolding sized
-        size_analysis = ap (λ (x : AnalysisAnswer). x.analysis) made ∙ simp (eq-eqb _ _ size_silent) (ap analysis_of read_chain)
+    -- and it has an analysis
+    module _ (a : Analysis) (made : analysis_said (Ok a) ≡ sized (first (size_checks c)) c) where
+      size_fine : fine ≡ first (size_checks c)
+      unfolding sized
+      size_fine = ap (λ (x : AnalysisAnswer). refused x.number x.place) made
 
-        pub few_queues : Few s.analysis.n
-        unfolding analysis_of
-        few_queues = rw size_analysis (record { few = ((read_accepts f).0 read_silent).chain.count.1 })
+      size_analysis : a ≡ analysis_of (chain_of f)
+      unfolding sized
+      size_analysis = ap (λ (x : AnalysisAnswer). x.analysis) (rw (← size_fine) at made) ∙ ap analysis_of read_chain
 
-        room_left : (room : ℕ) → room_check (length (report_text f)) room ≡ report_refusal f room
-        room_left room = or_right read_says z (or_right size_says y refl) ∙ sym (report_parts f room)
+      pub few_queues : Few a.n
+      unfolding analysis_of
+      few_queues = rw size_analysis (record { few = ((read_accepts f).0 (silent_as read_fine refl)).chain.count.1 })
 
-        pub text_written : {o p : List ℕ} {r : LengthAnswer} → Output (room_check (length (text_of s.analysis)) (length o)) (text_of s.analysis) o p r → Output (report_refusal f (length o)) (report_text f) o p r
-        text_written {o} w = rw (← room_left (length o)) (rw size_analysis at w)
+      pub text_written : {o p : List ℕ} {r : LengthAnswer} → Output (room_check (length (text_of a)) (length o)) (text_of a) o p r → Output (report_refusal f (length o)) (report_text f) o p r
+      text_written {o} w =
+          let left : room_check (length (report_text f)) (length o) ≡ report_refusal f (length o) =
+          or_right read_fine refl (or_right (size_fine ∙ size_is) refl refl) ∙ sym (report_parts f (length o)) in
+          rw (← left) (rw size_analysis at w)

@@ -5,7 +5,7 @@
 --   size_refusal f         what 6 and 7 refuse of the chain that f says
 use Rattle.std.specs.Prelude.{List, [], ◌∷◌, ◌++◌, ℕ, length}
 use Rattle.chain.specs.Refusals.{first}
-use Rattle.chain.specs.declared.Refusal.{Refusal}
+use Rattle.chain.specs.Refusal.{Refusal}
 use Rattle.chainfile.specs.File.{chain_of, read_checks}
 use Rattle.chainfile.specs.File.{read_refusal, read_numbers}
 use Rattle.chainfile.specs.Packed.{room_check}

@@ -3,36 +3,29 @@
 
 ghost use Rattle.std.specs.Prelude.{length};
 ghost use Rattle.chain.specs.Faults.{Few};
-ghost use Rattle.chainfile.specs.Packed.{room_check, Output};
+ghost use Rattle.chainfile.specs.Packed.{room_check, length_said, Output};
 ghost use Rattle.reporttext.specs.Text.{text_of};
 ghost use Rattle.reporttext.specs.Refused.{refusal_text};
 ghost use Rattle.reporttext.specs.Short.{longest_report, AtMost};
 ghost use Rattle.report.specs.Checks.{report_text, report_refusal};
 
-use chainfile::LengthAnswer;
+use chain::{Reason, Refused};
 pub use reporttext::headed;
 use sizing::Analysis;
 
 // Writes the report of a chain file to the front of the lent bytes, and answers its length; or refuses and writes nothing.
-pub fn report(file: &[u8], out: &mut [u8]) -> LengthAnswer
-    ensures { Output (report_refusal file.now (length out.old)) (report_text file.now) out.old out.new result }
+pub fn report(file: &[u8], out: &mut [u8]) -> Result<usize, Refused>
+    ensures { Output (report_refusal file.now (length out.old)) (report_text file.now) out.old out.new (length_said result) }
 {
-    let read = chainfile::read(file);
-    if read.number != 0 {
-        return chainfile::refused(read.number, read.place);
-    }
-    let chain = read.chain;
-    let sizes = sizing::sized(chain);
-    if sizes.number != 0 {
-        return chainfile::refused(sizes.number, sizes.place);
-    }
-    let analysis = sizes.analysis;
-    write_text(analysis, out)
+    let chain = chainfile::read(file)?;
+    let analysis = sizing::sized(chain)?;
+    write_text(&analysis, out)
 }
 
-// Writes the line of a refusal to the front of the lent bytes, and answers its length; or 10, and writes nothing.
-pub fn refusal_line(number: u32, place: u32, out: &mut [u8]) -> LengthAnswer
-    ensures { Output (room_check (length (refusal_text number place)) (length out.old)) (refusal_text number place) out.old out.new result }
+// Writes the line of a refusal to the front of the lent bytes, and answers its length; or 10, and writes nothing. C hands in
+// the number, so it may be no reason's.
+pub fn refusal_line(number: u32, place: u32, out: &mut [u8]) -> Result<usize, Refused>
+    ensures { Output (room_check (length (refusal_text number place)) (length out.old)) (refusal_text number place) out.old out.new (length_said result) }
 {
     let mut line = [0u8; reporttext::LONGEST_REFUSAL];
     let end = reporttext::put_refusal(&mut line, number, place);
@@ -43,12 +36,12 @@ pub fn refusal_line(number: u32, place: u32, out: &mut [u8]) -> LengthAnswer
 // goes straight into the lent bytes; else its length has to be known before the first byte may be written. A call of its own,
 // so that its memory is not taken while the file is read.
 #[inline(never)]
-fn write_text(analysis: Analysis, out: &mut [u8]) -> LengthAnswer
-    requires { Few analysis.n }
-    ensures { Output (room_check (length (text_of analysis)) (length out.old)) (text_of analysis) out.old out.new result }
+fn write_text(analysis: &Analysis, out: &mut [u8]) -> Result<usize, Refused>
+    requires { Few analysis.now.n }
+    ensures { Output (room_check (length (text_of analysis.now)) (length out.old)) (text_of analysis.now) out.old out.new (length_said result) }
 {
     if reporttext::LONGEST_REPORT <= out.len() {
-        return chainfile::written(reporttext::put_text(out, analysis));
+        return Ok(reporttext::put_text(out, analysis));
     }
     let mut text = [0u8; reporttext::LONGEST_REPORT];
     let end = reporttext::put_text(&mut text, analysis);
@@ -56,13 +49,12 @@ fn write_text(analysis: Analysis, out: &mut [u8]) -> LengthAnswer
 }
 
 // Copies a text to the front of the lent bytes, or 10 where there is no room for it.
-fn copy_text(text: &[u8], out: &mut [u8]) -> LengthAnswer
+fn copy_text(text: &[u8], out: &mut [u8]) -> Result<usize, Refused>
     requires { AtMost longest_report text.now }
-    ensures { Output (room_check (length text.now) (length out.old)) text.now out.old out.new result }
+    ensures { Output (room_check (length text.now) (length out.old)) text.now out.old out.new (length_said result) }
 {
     let need = text.len();
-    if out.len() < need {
-        return chainfile::refused(10, need as u32);
-    }
-    chainfile::written(decimal::put_bytes(out, 0, text))
+    chain::test(Reason::NoRoom, need as u32, out.len() < need)?;
+    out[..need].copy_from_slice(text);
+    Ok(need)
 }

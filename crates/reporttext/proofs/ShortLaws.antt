@@ -48,7 +48,12 @@ module _ (c : Chain) (a : Accepted c) where
   busy_short : length (busy_line (analysis_of c)) ≤ longest_busy_line
   unfolding busy_line analysis_of
   busy_short =
-      omega (arith, length-append (column (busy_of c) 44) (column (cycle_of c) 10), column_word (busy_of c) 44 (omega (arith, busy_fits c a)), column_word (cycle_of c) 10 (omega (arith, cycle_fits c a)))
+      omega (
+        arith,
+        length-append (column (busy_of c) 44) (column (cycle_of c) 10),
+        column_word (busy_of c) 44 (omega (arith, busy_fits c a)),
+        column_word (cycle_of c) 10 (omega (arith, cycle_fits c a)),
+      )
 
   pub report_short : length (text_of (analysis_of c)) ≤ longest_report
   unfolding text_of analysis_of

@@ -1,15 +1,18 @@
 // The report's text: its lines, written one behind the other where there is room for the longest report; the line of a
-// refusal; and the comparison with the first line.
+// refusal; and the comparison with the first line. `Analysis` is C's record, so that it has at most 16 queues stands in the
+// contracts.
 #![tactic(auto)]
 
 ghost use Rattle.std.specs.Prelude.{◌≡◌, ◌+◌, ◌*◌, ◌≤◌};
 ghost use Rattle.words.specs.Put.{Room, Puts};
+ghost use Rattle.words.specs.Writer.{Free, Wrote};
 ghost use Rattle.reporttext.specs.Text.{columns, column_count, numbers, line, lines, text_of};
 ghost use Rattle.reporttext.specs.Heading.{headed};
 ghost use Rattle.reporttext.specs.Refused.{longest_refusal, refusal_text};
 ghost use Rattle.reporttext.specs.Short.{longest_column, longest_line, longest_report, LinesFit};
 
 use sizing::{Analysis, QueueSize};
+use words::Writer;
 
 // Bytes enough for every report: the first line, a line for each of 16 queues, and the last line.
 pub const LONGEST_REPORT: usize = HEADING_LENGTH + 16 * LONGEST_LINE + LONGEST_BUSY_LINE;
@@ -39,78 +42,64 @@ const LONGEST_BUSY_LINE: usize = 5 + 2 * LONGEST_COLUMN;
 pub fn headed(text: &[u8]) -> bool
     ensures { result ≡ headed text.now }
 {
-    if text.len() < HEADING_LENGTH {
-        return false;
-    }
-    let mut i = 0;
-    while i < HEADING_LENGTH {
-        if text[i] != HEADING[i] {
-            return false;
-        }
-        i += 1;
-    }
-    true
+    text.starts_with(&HEADING)
 }
 
 // Writes the whole report of an analysis to the front of `out`, and answers its length.
-pub fn put_text(out: &mut [u8], analysis: Analysis) -> usize
-    requires { LinesFit analysis.n out.old 0 longest_report }
-    ensures { Puts out.old 0 (text_of analysis) out.new result × (result ≤ longest_report) }
+pub fn put_text(out: &mut [u8], analysis: &Analysis) -> usize
+    requires { LinesFit analysis.now.n out.old 0 longest_report }
+    ensures { Puts out.old 0 (text_of analysis.now) out.new result × (result ≤ longest_report) }
 {
-    let a = decimal::put_bytes(out, 0, &HEADING);
-    let b = put_lines(out, a, analysis);
-    let c = decimal::put_bytes(out, b, b"busy,");
-    let d = decimal::put_column(out, c, analysis.busy, b',');
-    decimal::put_column(out, d, analysis.cycle, b'\n')
+    let mut writer = Writer::new(out);
+    writer.bytes(&HEADING);
+    put_lines(&mut writer, analysis);
+    writer.bytes(b"busy,");
+    decimal::put_column(&mut writer, analysis.busy, b',');
+    decimal::put_column(&mut writer, analysis.cycle, b'\n');
+    writer.at
 }
 
-// Writes a line for each queue at `at`.
-fn put_lines(out: &mut [u8], at: usize, analysis: Analysis) -> usize
-    requires { LinesFit analysis.n out.old at (longest_line * analysis.n) }
-    ensures { Puts out.old at (lines analysis analysis.n) out.new result × (result ≤ at + longest_line * analysis.n) }
+// Writes a line for each queue.
+fn put_lines(out: &mut Writer, analysis: &Analysis)
+    requires { LinesFit analysis.now.n out.old.out.now out.old.at (longest_line * analysis.now.n) }
+    ensures { Wrote out.old (lines analysis.now analysis.now.n) out.new × (out.new.at ≤ out.old.at + longest_line * analysis.now.n) }
 {
     let n = analysis.n as usize;
-    let mut i = 0;
-    let mut k = at;
-    while i < n {
-        let q = analysis.queues[i];
-        k = put_line(out, k, i as u32, q);
-        i += 1;
+    for (i, q) in analysis.queues[..n].iter().enumerate() {
+        put_line(out, i as u32, q);
     }
-    k
 }
 
-// Writes queue i's line at `at`.
-fn put_line(out: &mut [u8], at: usize, i: u32, q: QueueSize) -> usize
-    requires { Room out.old at longest_line }
-    ensures { Puts out.old at (line i q) out.new result × (result ≤ at + longest_line) }
+// Writes queue i's line.
+fn put_line(out: &mut Writer, i: u32, q: &QueueSize)
+    requires { Free out.old longest_line }
+    ensures { Wrote out.old (line i q.now) out.new × (out.new.at ≤ out.old.at + longest_line) }
 {
-    let a = put_numbers(out, at, i, q);
-    let b = decimal::put_integer(out, a, q.margin);
-    decimal::put_byte(out, b, b'\n')
+    put_numbers(out, i, q);
+    decimal::put_integer(out, q.margin);
+    out.byte(b'\n');
 }
 
 // Writes the numbers of queue i's line before its margin, a comma behind each.
-fn put_numbers(out: &mut [u8], at: usize, i: u32, q: QueueSize) -> usize
-    requires { Room out.old at (longest_column * column_count) }
-    ensures { Puts out.old at (numbers (columns i q)) out.new result × (result ≤ at + longest_column * column_count) }
+fn put_numbers(out: &mut Writer, i: u32, q: &QueueSize)
+    requires { Free out.old (longest_column * column_count) }
+    ensures { Wrote out.old (numbers (columns i q.now)) out.new × (out.new.at ≤ out.old.at + longest_column * column_count) }
 {
     let columns: [u32; COLUMNS] = [i, q.x, q.y, q.minimum, q.by, q.capacity];
-    let mut j = 0;
-    let mut k = at;
-    while j < COLUMNS {
-        k = decimal::put_column(out, k, columns[j], b',');
-        j += 1;
+    for n in columns {
+        decimal::put_column(out, n, b',');
     }
-    k
 }
 
-// Writes the line of a refusal to the front of `out`, and answers its length.
+// Writes the line of a refusal to the front of `out`, and answers its length. C hands in the number, so it may be no
+// reason's.
 pub fn put_refusal(out: &mut [u8], number: u32, place: u32) -> usize
     requires { Room out.old 0 longest_refusal }
     ensures { Puts out.old 0 (refusal_text number place) out.new result × (result ≤ longest_refusal) }
 {
-    let a = decimal::put_bytes(out, 0, b"refused,");
-    let b = decimal::put_column(out, a, number, b',');
-    decimal::put_column(out, b, place, b'\n')
+    let mut writer = Writer::new(out);
+    writer.bytes(b"refused,");
+    decimal::put_column(&mut writer, number, b',');
+    decimal::put_column(&mut writer, place, b'\n');
+    writer.at
 }

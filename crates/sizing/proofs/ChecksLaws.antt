@@ -36,7 +36,8 @@ use Rattle.sizing.specs.Load.{busy_of, cycle_of}
 use Rattle.sizing.specs.Sizes.{minimum_of, capacity_of, size_by, analysis_of}
 use Rattle.sizing.proofs.SizesLaws.{size_at}
 use Rattle.sizing.specs.declared.QueueSize.{QueueSize}
-use Rattle.sizing.specs.Checks.{limit, too_large, rate_test, rate_check, load_check, capacity_test, capacity_check, short_test, short_in, size_checks, analyse_checks, run_checks, analyse_refusal, run_refusal, InLimit, FirstTooLarge, short_alike, Short, Enough, FirstShort, analyse_numbers, run_numbers}
+use Rattle.sizing.specs.Checks.{limit, too_large, rate_test, rate_check, load_check, capacity_test, capacity_check, short_test, short_in, size_checks, analyse_checks}
+use Rattle.sizing.specs.Checks.{run_checks, analyse_refusal, run_refusal, InLimit, FirstTooLarge, short_alike, Short, Enough, FirstShort, analyse_numbers, run_numbers}
 
 -- it is the largest number of 32 bits
 pub limit_word : limit + 1 ≡ 2 ^ 32
@@ -56,6 +57,9 @@ analyse_parts c = first_append (chain_checks c) (size_checks c)
 pub run_parts : (c : Chain) → run_refusal c ≡ or_else (analyse_refusal c) (capacity_check c)
 unfolding run_refusal analyse_refusal capacity_check first
 run_parts c = first_append (analyse_checks c) (capacity_check c ∷ []) ∙ ap (or_else (first (analyse_checks c))) (first_last (tab c.n (capacity_test c)))
+
+-- by which the check proves a call that makes them one behind the other
+pub ruleset parts = (analyse_parts, run_parts)
 
 module _ (c : Chain) where
   pub rate_silent : (i : ℕ) → Silent (rate_test c i) ↔ InLimit c (suc i)
@@ -160,7 +164,8 @@ run_numbered c = numbered_append analyse_numbers (8 ∷ []) (analyse_checks c) (
 
 -- a chain is refused with a number exactly when no earlier check speaks and the number's own condition holds
 module _ (c : Chain) (L : ℕ) where
-  analyse_at : (k : ℕ) → k < 5 → (analyse_refusal c ≡ refused (get_or analyse_numbers k 0) L) ↔ (Silents (take k (analyse_checks c)) × (get_or (analyse_checks c) k fine ≡ refused (get_or analyse_numbers k 0) L))
+  analyse_at : (k : ℕ) → k < 5 → (analyse_refusal c ≡ refused (get_or analyse_numbers k 0) L)
+      ↔ (Silents (take k (analyse_checks c)) × (get_or (analyse_checks c) k fine ≡ refused (get_or analyse_numbers k 0) L))
   unfolding analyse_refusal
   analyse_at k l = exact_at analyse_numbers (analyse_checks c) (analyse_numbered c) tt k L l
 

@@ -1,7 +1,7 @@
-pub mod Walk
-pub mod Answers
+pub mod Walking
+pub mod Filling
 pub mod Drawing
-pub mod Pair
+pub mod Answers
 pub mod AcceptedLaws
 pub mod ChecksLaws
 pub mod FiguresLaws

@@ -25,7 +25,7 @@ use Rattle.chain.specs.Refusals.{test, first}
 use Rattle.chain.specs.Record.{row_of}
 use Rattle.chain.specs.Checks.{range_check, order_check, chain_checks}
 use Rattle.chain.specs.Checks.{chain_numbers}
-use Rattle.chain.specs.declared.Refusal.{Refusal}
+use Rattle.chain.specs.Refusal.{Refusal}
 use Rattle.chain.specs.declared.Chain.{Chain}
 use Rattle.onequeue.specs.Capacity.{capacity}
 use Rattle.sizing.specs.Nodes.{x_of, y_of}

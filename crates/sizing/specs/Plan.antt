@@ -2,27 +2,23 @@
 --   capacity_in, work_in l j, period_in l
 --                            the numbers of a plan: each queue's capacity in force B, e of the node that it feeds, and the source's y
 --   Plans l c                the plan l has the numbers of the chain c
---   room_by q                a queue's capacity in force, and whether it is below the minimum
---   short_at r i s            8 of the queues before queue i, or of queue i
 --   Draws, DrawnGives        what the code asks that draws a plan, and what it gives
 --   Blank, SizedPlans, RunPlans
 --                            the same of the code that checks a chain, and that checks it for a run
 --   Drawn c i l              a plan of which the first i queues are filled in: y is in its place
 --   drawn_none, _more, _plans
 --                            at the start, with one queue more, and at the end
-use Rattle.std.specs.Prelude.{◌≡◌, ◌≢◌, Bool, List, ℕ, ◌+◌, ◌≤◌, ◌<◌, ltb, length, get_or, set}
+use Rattle.std.specs.Prelude.{◌≡◌, ◌≢◌, Result, IfOk, OnOk, List, ℕ, ◌+◌, ◌≤◌, ◌<◌, length, get_or, set}
 use Rattle.std.proofs.Common.{◌∙◌, arith, length-set, get_or-set_same, get_or-set_other}
 use Rattle.words.specs.Table.{below_next}
 use Rattle.chain.specs.Record.{row_of, work_of}
 use Rattle.chain.specs.declared.Chain.{Chain}
-use Rattle.chain.specs.Refusals.{test, first, or_else, Silent}
+use Rattle.chain.specs.Refusals.{first}
+use Rattle.chain.specs.Said.{said}
+use Rattle.chain.specs.declared.reasons.Refused.{Refused}
 use Rattle.chain.specs.Sound.{Sound}
-use Rattle.chain.specs.declared.Refusal.{Refusal}
-use Rattle.words.specs.declared.Queue.{Queue}
-use Rattle.sizing.specs.Sizes.{minimum_of, capacity_of}
+use Rattle.sizing.specs.Sizes.{capacity_of}
 use Rattle.sizing.specs.Checks.{size_checks, capacity_check, analyse_refusal, run_refusal}
-use Rattle.sizing.specs.declared.Room.{Room}
-use Rattle.sizing.specs.declared.Doubts.{Doubts}
 
 -- where each number stands: B of queue j, e of N_(j+1), and y
 abbrev pub capacity_in : List ℕ → ℕ → ℕ
@@ -41,38 +37,30 @@ pub record Plans (l : List ℕ) (c : Chain) : Type 0 where
   pub works : (j : ℕ) → j < c.n → work_in l j ≡ work_of c j
   pub period : period_in l ≡ c.period
 
--- a queue's capacity in force, and whether it is below the minimum
-abbrev pub room_by : Queue → Room
-room_by q = record { capacity = capacity_of q; short = ltb (capacity_of q) (minimum_of q) }
-
--- 8 of the queues before queue i, or of queue i where they are silent
-abbrev pub short_at : Refusal → ℕ → Bool → Refusal
-short_at r i s = or_else r (test 8 i s)
-
 -- a chain that 2, 4 and 5 pass, and the words of a plan
 pub record Draws (c : Chain) (l : List ℕ) : Type 0 where
   pub chain : Sound c
   pub long : length l ≡ 33
 
 -- what 6 and 7 say; and where they are silent what 8 says, and the plan
-pub record DrawnGives (c : Chain) (l : List ℕ) (r : Doubts) : Type 0 where
-  pub sizes : r.sizes ≡ first (size_checks c)
-  pub short : Silent r.sizes → r.short ≡ capacity_check c
-  pub plans : Silent r.sizes → Plans l c
+pub record DrawnGives (c : Chain) (l : List ℕ) (r : Result (Result Unit Refused) Refused) : Type 0 where
+  pub sizes : said r ≡ first (size_checks c)
+  pub short : IfOk r (λ s. said s ≡ capacity_check c)
+  pub plans : OnOk r (Plans l c)
 
 -- the words of a plan
 pub record Blank (l : List ℕ) : Type 0 where
   pub long : length l ≡ 33
 
 -- what refuses a chain, or its plan
-pub record SizedPlans (c : Chain) (l : List ℕ) (r : Refusal) : Type 0 where
-  pub says : r ≡ analyse_refusal c
-  pub plans : Silent r → Plans l c
+pub record SizedPlans (c : Chain) (l : List ℕ) (r : Result Unit Refused) : Type 0 where
+  pub says : said r ≡ analyse_refusal c
+  pub plans : OnOk r (Plans l c)
 
 -- the same of a chain that is to be run
-pub record RunPlans (c : Chain) (l : List ℕ) (r : Refusal) : Type 0 where
-  pub says : r ≡ run_refusal c
-  pub plans : Silent r → Plans l c
+pub record RunPlans (c : Chain) (l : List ℕ) (r : Result Unit Refused) : Type 0 where
+  pub says : said r ≡ run_refusal c
+  pub plans : OnOk r (Plans l c)
 
 -- the first i queues are filled in
 pub record Drawn (c : Chain) (i : ℕ) (l : List ℕ) : Type 0 where

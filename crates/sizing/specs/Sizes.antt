@@ -10,16 +10,21 @@
 --   analysis_of c            the whole
 --   sized r c                the answer of a call that makes an analysis: the refusal r, or the analysis where r is silent
 --   refused_with N L         the answer that is all zero but for number and place, as each refused one is (sized_refused)
+--   analysis_said r          the answer that C has of an analysis or an error
+--   analysis_says, _alike    number and place are what the result says, and no two results have the same answer
 --   minimum-, naming-, capacity_most
 --                            how large the numbers of a sound queue's line can be
 -- What is named here and not declared stands in proofs/SizesLaws.antt.
-use Rattle.std.specs.Prelude.{◌≡◌, refl, cond, ℕ, suc, ◌/◌, ◌≤◌, eqb, replicate, ℤ, pos}
-use Rattle.std.proofs.Common.{le_trans, arith}
+use Rattle.std.specs.Prelude.{◌≡◌, refl, cond, Result, ℕ, suc, ◌/◌, ◌≤◌, eqb, replicate, ℤ, pos}
+use Rattle.std.proofs.Common.{Ok, Err, sym, ap, le_trans, arith}
 use Rattle.words.specs.Table.{tab, slots}
 use Rattle.words.specs.declared.Queue.{Queue}
 use Rattle.chain.specs.Record.{row_of}
 use Rattle.chain.specs.Sound.{SoundRow}
-use Rattle.chain.specs.declared.Refusal.{Refusal}
+use Rattle.chain.specs.Refusal.{Refusal}
+use Rattle.chain.specs.Refusals.{refused}
+use Rattle.chain.specs.Said.{code, said, speaks, refusal_alike}
+use Rattle.chain.specs.declared.reasons.Refused.{Refused}
 use Rattle.chain.specs.declared.Chain.{Chain}
 use Rattle.arith.specs.Gcd.{gcd}
 use Rattle.onequeue.specs.Known.{Known}
@@ -101,6 +106,23 @@ sized r c = record { number = r.number; place = r.place; analysis = cond (eqb r.
 -- all zero but for number and place
 abbrev pub refused_with : ℕ → ℕ → AnalysisAnswer
 refused_with N L = record { number = N; place = L; analysis = empty_analysis }
+
+-- the answer that a result makes which is an analysis or an error
+abbrev pub analysis_said : Result Analysis Refused → AnalysisAnswer
+analysis_said (Ok a) = record { number = 0; place = 0; analysis = a }
+analysis_said (Err e) = refused_with (code e.reason) e.place
+
+-- number and place are those of what the result says
+pub analysis_says : (r : Result Analysis Refused) → refused (analysis_said r).number (analysis_said r).place ≡ said r
+analysis_says (Ok a) = refl
+analysis_says (Err e) = refl
+
+-- equal answers come from equal results
+pub analysis_alike : (r s : Result Analysis Refused) → analysis_said r ≡ analysis_said s → r ≡ s
+analysis_alike (Ok a) (Ok b) e = ap Ok (ap (λ (x : AnalysisAnswer). x.analysis) e)
+analysis_alike (Ok a) (Err f) e = absurd (speaks f (ap (λ (x : AnalysisAnswer). x.number) (sym e)))
+analysis_alike (Err d) (Ok b) e = absurd (speaks d (ap (λ (x : AnalysisAnswer). x.number) e))
+analysis_alike (Err d) (Err f) e = ap Err (refusal_alike d f (ap (λ (x : AnalysisAnswer). refused x.number x.place) e))
 
 -- how large minimum, naming count and capacity of a sound queue can be
 pub minimum_most : {q : Queue} → SoundRow q → minimum_of q ≤ 131069

@@ -4,15 +4,17 @@
 // `planned`.
 #![tactic(auto)]
 
-ghost use Rattle.std.specs.Prelude.{◌≡◌};
-ghost use Rattle.chain.specs.Refusals.{first};
+ghost use Rattle.std.specs.Prelude.{◌≡◌, ◌+◌, IfErr, IfOk, OnOk, ltb};
+ghost use Rattle.chain.specs.Refusals.{first, test};
+ghost use Rattle.chain.specs.Said.{refusal, said};
 ghost use Rattle.chain.specs.Sound.{Sound, SoundRow};
 ghost use Rattle.chain.specs.Faults.{Few};
-ghost use Rattle.sizing.specs.Sizes.{size_by, sized, refused_with, row_by, Parted};
+ghost use Rattle.sizing.specs.Sizes.{size_by, size_of, sized, analysis_said, row_by, Parted};
 ghost use Rattle.sizing.specs.Checks.{too_large, size_checks, analyse_answer, run_answer, short_in};
-ghost use Rattle.sizing.specs.Plan.{room_by, short_at, Draws, DrawnGives, Blank, SizedPlans, RunPlans};
+ghost use Rattle.sizing.specs.Walk.{Walked, Walks};
+ghost use Rattle.sizing.specs.Plan.{Draws, DrawnGives, Blank, SizedPlans, RunPlans};
 
-use chain::{Chain, Queue, Refusal};
+use chain::{Chain, Queue, Reason, Refused};
 use onequeue::Row;
 use rates::Rate;
 
@@ -38,7 +40,7 @@ pub struct Analysis {
     pub cycle: u32,
 }
 
-// An analysis, or the refusal that stands in its place.
+// An analysis, or the refusal that stands in its place, as C has it.
 #[repr(C)]
 #[derive(Clone, Copy)]
 pub struct AnalysisAnswer {
@@ -47,9 +49,9 @@ pub struct AnalysisAnswer {
     pub analysis: Analysis,
 }
 
-// A plan is what deadlines and work are made from, in one array of words that code lends from call to call. How many words
-// it has, and where they lie: each queue's capacity in force, the execution time of the node that the queue feeds, and the
-// source's period.
+// A plan is what deadlines and work are made from, in one array of words that code lends from call to call; no struct, since
+// `Plans`, `capacity_in` and `work_in` of specs/Plan.antt speak of its words. How many words it has, and where they lie: each
+// queue's capacity in force, the execution time of the node that the queue feeds, and the source's period.
 pub const PLAN: usize = 33;
 
 pub const CAPACITY: usize = 0;
@@ -58,18 +60,12 @@ pub const WORK: usize = 16;
 
 pub const PERIOD: usize = 32;
 
-// What is refused of a chain's sizes: by 6 and 7, and by 8, which runs and deadlines alone ask.
+// A walk over the queues: the rate of the node that it has come to, x firings in y ticks, and the busy ticks per y so far.
 #[derive(Clone, Copy)]
-pub struct Doubts {
-    pub sizes: Refusal,
-    pub short: Refusal,
-}
-
-// A queue's capacity in force, and whether it is below the queue's minimum.
-#[derive(Clone, Copy)]
-pub struct Room {
-    capacity: u32,
-    short: bool,
+struct Walk {
+    x: u32,
+    y: u32,
+    busy: u64,
 }
 
 // The slot of no queue.
@@ -93,174 +89,149 @@ const NOTHING: Analysis = Analysis {
 // The largest x and the largest y of a rate.
 const LIMIT: u64 = 4294967295;
 
-// The analysis of a chain, or the first of 2, 4, 5, 6 and 7 that refuses it.
-pub fn analyse(chain: Chain) -> AnalysisAnswer
-    ensures { result ≡ analyse_answer chain }
-{
-    let wrong = chain::check_chain(chain);
-    if wrong.number != 0 {
-        return refused(wrong.number, wrong.place);
+impl From<Result<Analysis, Refused>> for AnalysisAnswer {
+    ghost from_gives = { λ r a. a ≡ analysis_said r };
+
+    fn from(outcome: Result<Analysis, Refused>) -> AnalysisAnswer {
+        match outcome {
+            Ok(analysis) => AnalysisAnswer {
+                number: 0,
+                place: 0,
+                analysis,
+            },
+            Err(refused) => AnalysisAnswer {
+                number: refused.number(),
+                place: refused.place,
+                analysis: NOTHING,
+            },
+        }
     }
+}
+
+// The analysis of a chain, or the first of 2, 4, 5, 6 and 7 that refuses it.
+#[tactic(auto, using(crate::proofs::Answers::answering))]
+pub fn analyse(chain: Chain) -> Result<Analysis, Refused>
+    ensures { analysis_said result ≡ analyse_answer chain }
+{
+    chain::check_chain(chain)?;
     sized(chain)
 }
 
 // The analysis of a chain that is to be run, or the first of 2, 4, 5, 6, 7 and 8 that refuses it.
-pub fn checked_for_run(chain: Chain) -> AnalysisAnswer
-    ensures { result ≡ run_answer chain }
+#[tactic(auto, using(crate::proofs::Answers::answering))]
+pub fn checked_for_run(chain: Chain) -> Result<Analysis, Refused>
+    ensures { analysis_said result ≡ run_answer chain }
 {
-    let answer = analyse(chain);
-    if answer.number != 0 {
-        return answer;
-    }
-    let short = short_queue(answer.analysis);
-    if short.number != 0 {
-        return refused(short.number, short.place);
-    }
-    answer
+    let analysis = analyse(chain)?;
+    check_capacities(&analysis)?;
+    Ok(analysis)
 }
 
 // The plan of a chain, drawn into the lent words, or the first of 2, 4, 5, 6 and 7 that refuses it.
-pub fn planned(chain: Chain, plan: &mut [u32; PLAN]) -> Refusal
+#[tactic(auto, using(crate::proofs::Answers::passed, crate::proofs::ChecksLaws::parts, chain::proofs::Passing::passing))]
+pub fn planned(chain: Chain, plan: &mut [u32; PLAN]) -> Result<(), Refused>
     requires { Blank plan.old }
     ensures { SizedPlans chain plan.new result }
 {
-    let wrong = chain::check_chain(chain);
-    if wrong.number != 0 {
-        return wrong;
-    }
-    let doubts = drawn(chain, plan);
-    doubts.sizes
+    chain::check_chain(chain)?;
+    let _short = drawn(&chain, plan)?;
+    Ok(())
 }
 
 // The plan of a chain that is to be run, drawn into the lent words, or the first of 2, 4, 5, 6, 7 and 8 that refuses it.
-pub fn planned_for_run(chain: Chain, plan: &mut [u32; PLAN]) -> Refusal
+#[tactic(auto, using(crate::proofs::Answers::passed, crate::proofs::ChecksLaws::parts, chain::proofs::Passing::passing))]
+pub fn planned_for_run(chain: Chain, plan: &mut [u32; PLAN]) -> Result<(), Refused>
     requires { Blank plan.old }
     ensures { RunPlans chain plan.new result }
 {
-    let wrong = chain::check_chain(chain);
-    if wrong.number != 0 {
-        return wrong;
-    }
-    let doubts = drawn(chain, plan);
-    let sizes = doubts.sizes;
-    if sizes.number != 0 {
-        return sizes;
-    }
-    doubts.short
+    chain::check_chain(chain)?;
+    drawn(&chain, plan)?
 }
 
-// The plan of a chain that 2, 4 and 5 have passed, drawn into the lent words, and what 6, 7 and 8 say of the chain.
-pub fn drawn(chain: Chain, plan: &mut [u32; PLAN]) -> Doubts
-    requires { Draws chain plan.old }
-    ensures { DrawnGives chain plan.new result }
+// The plan of a chain that 2, 4 and 5 have passed, drawn into the lent words, or the first of 6 and 7 that refuses it; and then
+// what 8 says of it, which runs and deadlines alone ask.
+#[tactic(auto, using(crate::proofs::Walking::walk_says))]
+pub fn drawn(chain: &Chain, plan: &mut [u32; PLAN]) -> Result<Result<(), Refused>, Refused>
+    requires { Draws chain.now plan.old }
+    ensures { DrawnGives chain.now plan.new result }
 {
-    let n = chain.n as usize;
+    let mut short = Ok(());
+    let mut walk = Walk::start(chain);
     plan[PERIOD] = chain.period;
-    let mut short = chain::FINE;
-    let mut x: u32 = 1;
-    let mut y = chain.period;
-    let mut busy = 0;
-    let mut i = 0;
-    while i < n {
-        let q = chain.queues[i];
-        let row = parted(q);
-        let rate = rates::rate_after(row, x, y);
-        if is_too_large(rate) {
-            return Doubts {
-                sizes: Refusal {
-                    number: 6,
-                    place: (i + 1) as u32,
-                },
-                short: chain::FINE,
-            };
-        }
-        x = rate.x as u32;
-        y = rate.y as u32;
-        busy = rates::busy_after(busy, rate.stretch, chain.work[i], x, y);
-        let room = room_of(q, row);
-        short = shorter(short, i as u32, room.short);
-        plan[CAPACITY + i] = room.capacity;
+    for i in 0..chain.n as usize {
+        let size = walk.advance(chain, i)?;
+        short = short.and(check_capacity(i as u32, size));
+        plan[CAPACITY + i] = size.capacity;
         plan[WORK + i] = chain.work[i];
-        i += 1;
     }
-    Doubts {
-        sizes: chain::test(7, 0, (y as u64) < busy),
-        short: short,
-    }
+    walk.load()?;
+    Ok(short)
 }
 
 // The analysis of a chain that 2, 4 and 5 have passed, or the first of 6 and 7 that refuses it.
-pub fn sized(chain: Chain) -> AnalysisAnswer
+#[tactic(auto, using(crate::proofs::SizesLaws::analysis_refused, crate::proofs::Walking::walk_says))]
+pub fn sized(chain: Chain) -> Result<Analysis, Refused>
     requires { Sound chain }
-    ensures { result ≡ sized (first (size_checks chain)) chain }
+    ensures { analysis_said result ≡ sized (first (size_checks chain)) chain }
 {
-    let n = chain.n as usize;
-    let mut analysis = NOTHING;
-    analysis.n = chain.n;
-    let mut x = 1;
-    let mut y = chain.period;
-    let mut busy = 0;
-    let mut i = 0;
-    while i < n {
+    let mut queues = [NO_SIZE; 16];
+    let mut walk = Walk::start(&chain);
+    for i in 0..chain.n as usize {
+        queues[i] = walk.advance(&chain, i)?;
+    }
+    let busy = walk.load()?;
+    Ok(Analysis {
+        n: chain.n,
+        queues,
+        busy,
+        cycle: walk.y,
+    })
+}
+
+impl Walk {
+    // The walk before the first queue: the source's rate, and no load.
+    fn start(chain: &Chain) -> Walk
+        ensures { Walked chain.now 0 result }
+    {
+        Walk {
+            x: 1,
+            y: chain.period,
+            busy: 0,
+        }
+    }
+
+    // Goes on to the node that queue i feeds: the queue's line, or 6 of the node. Where 6 has passed, both casts are proved to
+    // lose nothing. Inlined, so that a plan, which has no naming count, divides for none.
+    #[inline(always)]
+    #[tactic(auto, using(crate::proofs::Walking::walking))]
+    fn advance(&mut self, chain: &Chain, i: usize) -> Result<QueueSize, Refused>
+        requires { Walks chain.now i self.old }
+        ensures line { IfOk result (λ q. q ≡ size_of chain.now i) }
+        ensures walked { OnOk result (Walked chain.now (i + 1) self.new) }
+        ensures refused { IfErr result (λ e. refusal e ≡ first (size_checks chain.now)) }
+    {
         let q = chain.queues[i];
         let row = parted(q);
-        let rate = rates::rate_after(row, x, y);
-        if is_too_large(rate) {
-            return refused(6, (i + 1) as u32);
-        }
-        x = rate.x as u32;
-        y = rate.y as u32;
-        busy = rates::busy_after(busy, rate.stretch, chain.work[i], x, y);
-        analysis.queues[i] = size_of(q, row, x, y);
-        i += 1;
+        let rate = rates::rate_after(row, self.x, self.y);
+        chain::test(Reason::RateTooLarge, (i + 1) as u32, is_too_large(rate))?;
+        let x = rate.x as u32;
+        let y = rate.y as u32;
+        let busy = rates::busy_after(self.busy, rate.stretch, chain.work[i], x, y);
+        *self = Walk { x, y, busy };
+        Ok(size_of(q, row, x, y))
     }
-    if (y as u64) < busy {
-        return refused(7, 0);
-    }
-    analysis.busy = busy as u32;
-    analysis.cycle = y;
-    AnalysisAnswer {
-        number: 0,
-        place: 0,
-        analysis: analysis,
+
+    // The busy ticks of the walk's nodes in y ticks, or 7.
+    fn load(&self) -> Result<u32, Refused>
+        ensures says { said result ≡ test 7 0 (ltb self.now.y self.now.busy) }
+        ensures busy { IfOk result (λ b. b ≡ self.now.busy) }
+    {
+        chain::test(Reason::Overload, 0, u64::from(self.y) < self.busy)?;
+        Ok(self.busy as u32)
     }
 }
 
-// The answer of a refused call: all zero but for number and place.
-fn refused(number: u32, place: u32) -> AnalysisAnswer
-    ensures { result ≡ refused_with number place }
-{
-    AnalysisAnswer {
-        number: number,
-        place: place,
-        analysis: NOTHING,
-    }
-}
-
-// 8 of the queues looked at so far and queue i: the first of them that is short.
-fn shorter(short: Refusal, i: u32, below: bool) -> Refusal
-    ensures { result ≡ short_at short i below }
-{
-    if short.number != 0 {
-        return short;
-    }
-    chain::test(8, i, below)
-}
-
-// A queue's capacity in force, from its numbers, and whether it is below its minimum.
-fn room_of(q: Queue, row: Row) -> Room
-    requires { Parted q row }
-    ensures { result ≡ room_by q }
-{
-    let least = onequeue::least(row);
-    let capacity = onequeue::capacity(q.capacity, least.minimum);
-    Room {
-        capacity: capacity,
-        short: capacity < least.minimum,
-    }
-}
-
-// Whether a rate passes the limit.
+// Whether a rate passes the limit, a number of the scope's that is compared by its name.
 fn is_too_large(rate: Rate) -> bool
     ensures { result ≡ too_large rate.x rate.y }
 {
@@ -268,26 +239,26 @@ fn is_too_large(rate: Rate) -> bool
 }
 
 // 8: the lowest queue whose capacity is below its minimum.
-fn short_queue(analysis: Analysis) -> Refusal
-    requires { Few analysis.n }
-    ensures { result ≡ short_in analysis }
+#[tactic(auto, using(chain::proofs::Passing::passing), unfolding(crate::specs::Checks::short_in))]
+fn check_capacities(analysis: &Analysis) -> Result<(), Refused>
+    requires { Few analysis.now.n }
+    ensures { said result ≡ short_in analysis.now }
 {
-    let n = analysis.n as usize;
-    let mut i = 0;
-    while i < n {
-        let q = analysis.queues[i];
-        if q.capacity < q.minimum {
-            return Refusal {
-                number: 8,
-                place: i as u32,
-            };
-        }
-        i += 1;
+    for i in 0..analysis.n {
+        check_capacity(i, analysis.queues[i as usize])?;
     }
-    chain::FINE
+    Ok(())
+}
+
+// 8 of one queue, from its line.
+fn check_capacity(i: u32, size: QueueSize) -> Result<(), Refused>
+    ensures { said result ≡ test 8 i (ltb size.capacity size.minimum) }
+{
+    chain::test(Reason::CapacityTooSmall, i, size.capacity < size.minimum)
 }
 
 // A queue's numbers with the gcd of produce and consume, and what it leaves of consume.
+#[tactic(auto, using(arith::specs::Gcd::gcd_pos_left), unfolding(crate::specs::Sizes::row_by))]
 fn parted(q: Queue) -> Row
     requires { SoundRow q }
     ensures { result ≡ row_by q }
@@ -297,7 +268,7 @@ fn parted(q: Queue) -> Row
         produce: q.produce,
         threshold: q.threshold,
         consume: q.consume,
-        g: g,
+        g,
         share: arith::quotient(q.consume, g),
     }
 }
@@ -310,11 +281,11 @@ fn size_of(q: Queue, row: Row, x: u32, y: u32) -> QueueSize
     let least = onequeue::least(row);
     let capacity = onequeue::capacity(q.capacity, least.minimum);
     QueueSize {
-        x: x,
-        y: y,
+        x,
+        y,
         minimum: least.minimum,
         by: least.by,
-        capacity: capacity,
+        capacity,
         margin: onequeue::margin(capacity, least.minimum),
     }
 }

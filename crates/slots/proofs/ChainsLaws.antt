@@ -24,7 +24,7 @@ use Rattle.words.specs.declared.Queue.{Queue}
 use Rattle.chain.specs.Refusals.{test, first}
 use Rattle.chain.specs.Record.{row_of, work_of}
 use Rattle.chain.specs.Checks.{Field, ticks, row_fields, fields, count_check, out_of_range, range_check, overdrawn, order_check, record_range, record_order, chain_checks, chain_refusal}
-use Rattle.chain.specs.declared.Refusal.{Refusal}
+use Rattle.chain.specs.Refusal.{Refusal}
 use Rattle.chain.specs.declared.Chain.{Chain}
 use Rattle.rates.specs.Rates.{next_x, next_y}
 use Rattle.sizing.specs.Nodes.{x_of, y_of}

@@ -17,7 +17,7 @@ use borrow.Author.Tests.{ltb-true, ltb-false, leb-true}
 use Rattle.words.specs.Table.{tab, tab_alike}
 use Rattle.chain.specs.Refusals.{test, first, Silent, silent_as}
 use Rattle.chain.specs.Record.{row_of}
-use Rattle.chain.specs.declared.Refusal.{Refusal}
+use Rattle.chain.specs.Refusal.{Refusal}
 use Rattle.chain.specs.declared.Chain.{Chain}
 use Rattle.sizing.specs.Sizes.{capacity_of}
 use Rattle.sizing.specs.Checks.{limit}

@@ -1,6 +1,7 @@
 -- Laws of specs/Checks.antt that rest on a definition which an edit of must-fail/ changes.
 -- The checks of a run state, 17, and of a manual firing, 9, 11 and 12 (01, Numbers a call may refuse with).
 --   state_sums                 which looks at x through the sums alone
+--   none_lost                  and is the plain check where nothing was lost
 --   over c s i, over_true      whether N_i may fire
 --   queue_silent, -says, queues_exact, _silent, _only
 --                              their laws
@@ -14,8 +15,8 @@
 --   lent_run, state_lent, state_lent_with
 --                              the state whose numbers are lent, which 17 is said of
 use Rattle.std.proofs.Math.Logic.Iff
-use Rattle.std.specs.Prelude.{◌≡◌, refl, Bool, true, false, ◌↔◌, ◌≢◌, ◌⊎◌, List, ℕ, zero, suc, ◌+◌, ◌≤◌, ◌<◌, eqb, get_or}
-use Rattle.std.proofs.Common.{ap, inl, inr, arith, ne_eqb}
+use Rattle.std.specs.Prelude.{◌≡◌, refl, Bool, true, false, ◌↔◌, ◌≢◌, ◌⊎◌, List, ℕ, zero, suc, ◌+◌, ◌≤◌, ◌<◌, eqb, get_or, replicate}
+use Rattle.std.proofs.Common.{ap, inl, inr, add-zero, arith, ne_eqb}
 use Rattle.std.proofs.Math.Logic.{⊎_elim, by_cases}
 use Rattle.std.proofs.Math.Decide.{dec_lt}
 use Rattle.std.proofs.lemmas.Bool.{eqb-false}
@@ -26,10 +27,11 @@ use Rattle.chain.specs.Record.{row_of, work_of}
 use Rattle.chain.specs.declared.Chain.{Chain}
 use Rattle.sizing.specs.Sizes.{capacity_of}
 use Rattle.sizing.specs.Checks.{limit}
-use Rattle.state.specs.State.{count_at, held_at, done_at}
+use Rattle.state.specs.State.{zeros, count_at, held_at, done_at}
 use Rattle.state.specs.Fired.{Over, Room, supplied, accounted}
 use Rattle.state.specs.declared.Run.{Run}
-use Rattle.state.specs.Checks.{broken_unless, broken, state_check, spent, count_check, over, idle, over_check, cramped, Cramped, room_check, queue_test, BrokenAt, SteadyAt, FirstBrokenAt, state_test_with, state_check_with, FirstBroken, StateSound, lent_run}
+use Rattle.state.specs.Checks.{broken_unless, broken, state_check, spent, count_check, over, idle, over_check, cramped, Cramped}
+use Rattle.state.specs.Checks.{room_check, queue_test, BrokenAt, SteadyAt, FirstBrokenAt, state_test_with, state_check_with, FirstBroken, StateSound, lent_run}
 
 -- 17 of every queue of a state, over the two sides of each queue's balance
 module _ (c : Chain) (s : Run) (left right : ℕ → ℕ) where
@@ -62,6 +64,11 @@ pub state_sums : (c : Chain) (s : Run) (x : List ℕ) (right : ℕ → ℕ) → 
 unfolding state_check_with
 state_sums c s x right e = ap first (tab_alike c.n (state_test_with c s x) (queue_test c s (supplied c s) right) (λ i h. ap
     (λ (y : ℕ). test 17 i (broken_unless (eqb (supplied c s i) y) (row_of c i) (work_of c i) (held_at s i) (done_at s i))) (e i h)))
+
+-- where nothing was lost it is the plain check
+pub none_lost : (c : Chain) (s : Run) → state_check_with c s (replicate 16 0) ≡ state_check c s
+unfolding state_check broken
+none_lost c s = state_sums c s (replicate 16 0) (accounted c s) (λ i h. rw (zeros 16 i) (add-zero (accounted c s i)))
 
 module _ (c : Chain) (s : Run) where
   pub state_exact : (L : ℕ) → (state_check c s ≡ refused 17 L) ↔ FirstBroken c s L

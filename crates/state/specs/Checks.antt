@@ -5,7 +5,7 @@
 --                              producer and its consumer, x what it holds, d its consumer's work done
 --   state_test c s i, state_check c s
 --                              17 of queue i, and of the state: the lowest such queue
---   broken_with q e a b x l d, state_test_with c s x i, state_check_with c s x
+--   broken_with q e a b x l d, broken_at c s x i, state_test_with c s x i, state_check_with c s x
 --                              the same where the balance counts l tokens of the queue as lost, and those that x has of each queue
 --   spent c s i, count_check c s i
 --                              9 of a manual firing of N_i: its count cannot grow
@@ -27,13 +27,15 @@
 --   lent_run, state_lent, state_lent_with
 --                              the state whose numbers are lent, which 17 is said of
 -- What is named here and not declared stands in proofs/ChecksLaws.antt.
-use Rattle.std.specs.Prelude.{◌≡◌, Bool, true, not, ◌||◌, ◌&&◌, ◌≢◌, ◌⊎◌, List, ℕ, zero, suc, ◌+◌, ◌*◌, ◌≤◌, ◌<◌, ltb, leb, eqb, get_or}
-use Rattle.std.proofs.Common.{zero-add}
+use Rattle.std.specs.Prelude.{◌≡◌, Bool, true, not, ◌||◌, ◌&&◌, ◌≢◌, ◌⊎◌, Result, List, ℕ, zero, suc, ◌+◌, ◌*◌, ◌≤◌, ◌<◌, ltb, leb, eqb, get_or}
+use Rattle.std.proofs.Common.{Ok, Err, zero-add}
 use Rattle.words.specs.Table.{tab}
 use Rattle.words.specs.declared.Queue.{Queue}
 use Rattle.chain.specs.Refusals.{test, first, Silent, silent_as}
 use Rattle.chain.specs.Record.{row_of, work_of}
-use Rattle.chain.specs.declared.Refusal.{Refusal}
+use Rattle.chain.specs.Refusal.{Refusal}
+use Rattle.chain.specs.Said.{said, speaks}
+use Rattle.chain.specs.declared.reasons.Refused.{Refused}
 use Rattle.chain.specs.declared.Chain.{Chain}
 use Rattle.onequeue.specs.Capacity.{capacity}
 use Rattle.onequeue.specs.Least.{least}
@@ -63,6 +65,10 @@ state_test c s i = test 17 i (broken (row_of c i) (work_of c i) (count_at s i) (
 unfoldable pub broken_with : Queue → ℕ → ℕ → ℕ → ℕ → ℕ → ℕ → Bool
 unfolding capacity least
 broken_with q e a b x l d = broken_unless (eqb (start q + q.produce * a) (x + q.consume * b + l)) q e x d
+
+-- the same of queue i of a state, x having the tokens that each queue lost
+abbrev pub broken_at : Chain → Run → List ℕ → ℕ → Bool
+broken_at c s x i = broken_with (row_of c i) (work_of c i) (count_at s i) (count_at s (suc i)) (held_at s i) (get_or x i 0) (done_at s i)
 
 -- 17: the "lowest queue"
 unfoldable pub state_check : Chain → Run → Refusal
@@ -189,9 +195,11 @@ pub ruled_with : {c : Chain} {l x : List ℕ} → Accountable c l x → (i : ℕ
 ruled_with k i h = record { queue = ruled k.planned i h; few = k.few i h }
 
 -- a chain and its plan, as code was answered
-pub planned_sized : {c : Chain} {l : List ℕ} {r : Refusal} → SizedPlans c l r → Silent r → Planned c l
-planned_sized {c} p z = record { chain = ((analyse_accepts c).0 (silent_as p.says z)).chain; plans = p.plans z }
+pub planned_sized : {c : Chain} {l : List ℕ} {r : Result Unit Refused} → SizedPlans c l r → Silent (said r) → Planned c l
+planned_sized {c} {r = Ok u} p z = record { chain = ((analyse_accepts c).0 (silent_as p.says z)).chain; plans = p.plans }
+planned_sized {r = Err e} p z = absurd (speaks e z)
 
 -- and of a chain that may run
-pub planned_run : {c : Chain} {l : List ℕ} {r : Refusal} → RunPlans c l r → Silent r → Planned c l
-planned_run {c} p z = record { chain = ((run_accepts c).0 (silent_as p.says z)).0.chain; plans = p.plans z }
+pub planned_run : {c : Chain} {l : List ℕ} {r : Result Unit Refused} → RunPlans c l r → Silent (said r) → Planned c l
+planned_run {c} {r = Ok u} p z = record { chain = ((run_accepts c).0 (silent_as p.says z)).0.chain; plans = p.plans }
+planned_run {r = Err e} p z = absurd (speaks e z)

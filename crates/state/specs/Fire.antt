@@ -11,7 +11,7 @@ use Rattle.std.proofs.Math.Path.{refl}
 use Rattle.std.proofs.Common.{eq-eqb, ne_eqb}
 use Rattle.chain.specs.Refusals.{refused, first, Silent}
 use Rattle.chain.specs.Checks.{range_check, order_check}
-use Rattle.chain.specs.declared.Refusal.{Refusal}
+use Rattle.chain.specs.Refusal.{Refusal}
 use Rattle.chain.specs.declared.Chain.{Chain}
 use Rattle.sizing.specs.Load.{busy_in}
 use Rattle.sizing.specs.Checks.{analyse_checks, analyse_refusal, rate_check, analyse_numbers}

@@ -9,16 +9,20 @@
 --   answered r s t           the answer of a call: the refusal r with the state s, or the state t where r is silent
 --   refused_with N L s       the answer of a call that is refused with number N and place L
 --   answered_refused, _fine  its two cases
+--   run_said s o             the answer that a result makes which is a state or an error
+--   said_answered            which is the call's, of what the result says; answered_error, _ok: its two cases
 --   same_run                 states of equal parts are equal
-use Rattle.std.specs.Prelude.{◌≡◌, refl, cond, List, ℕ, zero, suc, ◌<◌, eqb, get_or, replicate}
-use Rattle.std.proofs.Common.{ap, arith, ne_eqb}
+use Rattle.std.specs.Prelude.{◌≡◌, refl, cond, Result, IfOk, List, ℕ, zero, suc, ◌<◌, eqb, get_or, replicate}
+use Rattle.std.proofs.Common.{Ok, Err, sym, ap, arith, ne_eqb}
 use Rattle.std.proofs.lemmas.List.{length-replicate, get_or-replicate}
 use Rattle.words.specs.Table.{tab, slots, is_slots, slot_used}
 use Rattle.chain.specs.Refusals.{fine, Silent}
 use Rattle.chain.specs.Record.{row_of}
 use Rattle.chain.specs.Sound.{Sound}
-use Rattle.chain.specs.declared.Refusal.{Refusal}
+use Rattle.chain.specs.Refusal.{Refusal}
+use Rattle.chain.specs.Said.{code, refusal, said, speaks}
 use Rattle.chain.specs.declared.Chain.{Chain}
+use Rattle.chain.specs.declared.reasons.Refused.{Refused}
 use Rattle.sizing.specs.Sizes.{start}
 use Rattle.state.specs.declared.Run.{Run}
 use Rattle.state.specs.declared.RunAnswer.{RunAnswer}
@@ -72,6 +76,11 @@ answered r s t = record { number = r.number; place = r.place; run = cond (eqb r.
 abbrev pub refused_with : ℕ → ℕ → Run → RunAnswer
 refused_with N L s = record { number = N; place = L; run = s }
 
+-- the answer that a result makes which is a state or an error, s being given back then
+abbrev pub run_said : Run → Result Run Refused → RunAnswer
+run_said s (Ok t) = record { number = 0; place = 0; run = t }
+run_said s (Err e) = refused_with (code e.reason) e.place s
+
 pub answered_refused : (r : Refusal) (s t : Run) → (Silent r → ⊥) → refused_with r.number r.place s ≡ answered r s t
 unfolding answered
 answered_refused r s t h = simp (ne_eqb _ _ h)
@@ -79,6 +88,17 @@ answered_refused r s t h = simp (ne_eqb _ _ h)
 pub answered_fine : {r : Refusal} (s t : Run) → fine ≡ r → record { number = 0; place = 0; run = t } ≡ answered r s t
 unfolding answered
 answered_fine s t e = rw (← e)
+
+-- a result's answer is the call's, of what the result says; an Ok result has the state that the call makes
+pub said_answered : (s t : Run) (o : Result Run Refused) → IfOk o (λ (u : Run). u ≡ t) → run_said s o ≡ answered (said o) s t
+said_answered s t (Ok u) e = rw e (answered_fine s t refl)
+said_answered s t (Err e) _ = answered_refused (refusal e) s t (speaks e)
+
+pub answered_error : (e : Refused) (s t : Run) → answered (refusal e) s t ≡ run_said s (Err e)
+answered_error e s t = sym (said_answered s t (Err e) tt)
+
+pub answered_ok : (s t : Run) → answered fine s t ≡ run_said s (Ok t)
+answered_ok s t = sym (said_answered s t (Ok t) refl)
 
 pub same_run : {s t : Run} → s.clock ≡ t.clock → s.counts ≡ t.counts → s.held ≡ t.held → s.done ≡ t.done → s ≡ t
 same_run k a h d = λ i. record { clock = k i; counts = a i; held = h i; done = d i }

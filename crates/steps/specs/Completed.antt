@@ -6,7 +6,7 @@
 --   complete_fires, _spills  the firing takes effect, or does not fit
 use Rattle.std.specs.Prelude.{◌≡◌, Bool, true, false}
 use Rattle.std.proofs.Math.Path.{refl, ap, subst}
-use Rattle.std.proofs.Common.{sym, ◌∙◌, true≢false, arith}
+use Rattle.std.proofs.Common.{Ok, Err, sym, ◌∙◌, true≢false, arith}
 use mathlib.Core.List.{List, [], ◌∷◌}
 use Prim.Native.Nat.{ℕ, zero, suc, ◌+◌, ◌≤◌, ◌<◌}
 use Rattle.std.proofs.Math.ListN.{get_or}
@@ -31,6 +31,7 @@ use Rattle.traces.proofs.TracedLaws.{finish_entry_law}
 use Rattle.steps.specs.Lent.{WorkFits, ended_at, EndsIn, Ends, FinishedTo, FinishedGives}
 use Rattle.steps.specs.Laws.{shows_as}
 use Rattle.steps.specs.Passed.{CompletesIn, Completes, CompletedTo, CompletedGives}
+use Rattle.steps.specs.declared.Halt.TheVariants as halt
 
 -- of a state with which the second half may be made
 module _ {l f e : List ℕ} {i : ℕ} {c : Chain} {u : Run} (x : CompletesIn l f e i c u) where
@@ -74,15 +75,16 @@ module _ {l f e : List ℕ} {i : ℕ} {c : Chain} {u : Run} (x : CompletesIn l f
       omega (arith, (time_is j z).0, (time_is j z).1, x.filled.below j (omega (arith, x.node)))
 
   -- it has not worked its execution time
-  goes_on : ended_at l (worked_in e i 1) i ≡ false → CompletedTo c u i f (worked_in e i 1) (record { kind = 0; fired = false })
+  goes_on : ended_at l (worked_in e i 1) i ≡ false → CompletedTo c u i f (worked_in e i 1) (Ok false)
   unfolding tracing finish finish_entry
   goes_on h = let on : finished c v ≡ clean v = works_on x.filled i (unended h) in record {
     outcome = ap (λ (y : Ticked). y.outcome) on;
+    spills = tt;
     shows = subst (λ (y : Ticked). Shows f c y.run) (sym on) (shows_as x.shown.shows (worked_counts u i) (worked_held u i));
     done = worked_is ∙ ap (λ (y : Ticked). y.run.done) (sym on);
     entry = finish_entry_law c v (works_unended x.filled i (unended h));
-    rests = λ z n. on;
-    others = λ z j n. ap (λ (y : Ticked). count_at y.run (suc j)) on ∙ same_counts (suc j);
+    rests = λ n. on;
+    others = λ j n. ap (λ (y : Ticked). count_at y.run (suc j)) on ∙ same_counts (suc j);
     some = λ n. absurd (true≢false (sym n));
   }
 
@@ -133,25 +135,27 @@ module _ {l f e : List ℕ} {i : ℕ} {c : Chain} {u : Run} (x : CompletesIn l f
         at {j} z = subst (λ (n : ℕ). finish_entry v n ≡ (u.clock + 1, n) ∷ []) (sym z) (ap (λ (t : ℕ). (t, suc j) ∷ []) (worked_clock u i))
 
     module _ {m o : List ℕ} where
-      fires : FinishedTo c u i m o true → CompletedTo c u i m o (record { kind = 0; fired = true })
+      fires : FinishedTo c u i m o true → CompletedTo c u i m o (Ok true)
       fires y = record {
         outcome = y.outcome;
+        spills = tt;
         shows = y.shows;
         done = y.done;
         entry = entry_own (ap (λ (z : Ticked). z.outcome) (sym ended_is.1) ∙ y.outcome);
-        rests = λ z n. absurd (true≢false n);
-        others = λ z j n. ap (λ (w : Ticked). count_at w.run (suc j)) ended_is.1 ∙ finish_others c v i (suc j) (λ w. n refl (sym w)) ∙ same_counts (suc j);
+        rests = λ n. absurd (true≢false n);
+        others = λ j n. ap (λ (w : Ticked). count_at w.run (suc j)) ended_is.1 ∙ finish_others c v i (suc j) (λ w. n refl (sym w)) ∙ same_counts (suc j);
         some = λ n. omega (arith, (before h).is);
       }
 
-      spills : FinishedTo c u i m o false → CompletedTo c u i m o (record { kind = 1; fired = false })
+      spills : FinishedTo c u i m o false → CompletedTo c u i m o (Err (halt.Overflowed (u.clock + 1) i))
       spills y = record {
         outcome = y.outcome;
+        spills = (refl, omega (arith, (before h).is));
         shows = y.shows;
         done = y.done;
         entry = finish_entry_law c v ended_is.0 ∙ tracing_none (finish c v i).outcome v _ (λ z. unclean_overflow (sym y.outcome ∙ ap (λ (w : Ticked). w.outcome) ended_is.1 ∙ z));
-        rests = λ z. absurd (omega arith);
-        others = λ z. absurd (omega arith);
+        rests = tt;
+        others = tt;
         some = λ n. absurd (true≢false (sym n));
       }
 
@@ -165,8 +169,8 @@ module _ {l f e : List ℕ} {i : ℕ} where
   complete_works a = works a.is
 
   module _ {o : List ℕ} {b : Bool} (w : o ≡ worked_in e i 1) (y : b ≡ ended_at l o i) where
-    pub complete_goes : b ≡ false → CompletedGives l f e i f o (record { kind = 0; fired = false })
-    complete_goes h = rw w (record { gives = λ p. goes_on p (all_done l e o i w y h) })
+    pub complete_goes : {t : ℕ} → b ≡ false → CompletedGives l f e t i f o (Ok false)
+    complete_goes h = rw w (record { gives = λ p. goes_on p (all_done l e o i w y h); told = tt })
 
     module _ (h : b ≡ true) where
       ends_now : {c : Chain} {u : Run} → CompletesIn l f e i c u → EndsIn l f o i c u
@@ -179,8 +183,10 @@ module _ {l f e : List ℕ} {i : ℕ} where
         finished_to : {c : Chain} {u : Run} {a : Bool} → k ≡ a → CompletesIn l f e i c u → FinishedTo c u i m n a
         finished_to {c} {u} z p = subst (FinishedTo c u i m n) z (q.gives (ends_now p))
 
-        pub complete_fires : k ≡ true → CompletedGives l f e i m n (record { kind = 0; fired = true })
-        complete_fires z = record { gives = λ p. fires p (all_done l e o i w y h) (finished_to z p) }
+        pub complete_fires : {t : ℕ} → k ≡ true → CompletedGives l f e t i m n (Ok true)
+        complete_fires z = record { gives = λ p. fires p (all_done l e o i w y h) (finished_to z p); told = tt }
 
-        pub complete_spills : k ≡ false → CompletedGives l f e i m n (record { kind = 1; fired = false })
-        complete_spills z = record { gives = λ p. spills p (all_done l e o i w y h) (finished_to z p) }
+        pub complete_spills : {t : ℕ} → k ≡ false → CompletedGives l f e t i m n (Err (halt.Overflowed t i))
+        complete_spills z = record { gives = λ p. spills p (all_done l e o i w y h) (finished_to z p); told = refl }
+
+pub ruleset completing = (complete_goes, complete_finishes, complete_fires, complete_spills)

@@ -8,12 +8,14 @@
 --   Quiets l e t U i         the ticks from t up to U are looked at
 --   QuietGives l e t U i r   r is the most of them in which the source does not fire and N_i does not finish its firing
 --   quiet_due, -none, _source, -all
---                            the source fires at t, no tick is left, the source fires first, and it does not
+--                            the source fires at t, no tick is left, the source fires first, and it does not; quiet_first: the last two together
 --   JumpedGives l e t U i h r
 --                            h has the work of so many ticks more, and r is the clock after them; jump_works: what that work asks
-use Rattle.std.specs.Prelude.{◌≡◌, refl, ◌≢◌, ◌⊎◌, List, ℕ, suc, ◌+◌, ◌-◌, ◌*◌, ◌/◌, ◌%◌, ◌≤◌, ◌<◌, get_or}
+use Rattle.std.specs.Prelude.{◌≡◌, refl, ◌≢◌, ◌⊎◌, List, ℕ, suc, ◌+◌, ◌-◌, ◌*◌, ◌/◌, ◌%◌, ◌≤◌, ◌<◌, min, get_or}
 use Rattle.std.proofs.Common.{ap, subst, ◌∙◌, inl, inr, ⊎_elim, add-zero, mod-lt, arith}
 use Rattle.std.specs.Int.{◌∣◌}
+use Rattle.std.proofs.Math.Logic.{by_cases}
+use Rattle.std.proofs.Math.Decide.{dec_lt}
 use Rattle.std.proofs.Math.Nat.{div-add-mod, dvd-mul_right, dvd_of_mod-eq-zero}
 use Rattle.sizing.specs.Checks.{limit}
 use Rattle.sizing.specs.Plan.{work_in, period_in}
@@ -114,6 +116,11 @@ module _ {l e : List ℕ} {t U i : ℕ} (a : Quiets l e t U i) where
 
       pub quiet_all : k ≤ period_in l - t % period_in l → QuietGives l e t U i k
       quiet_all h = record { within = omega (arith, w.within, a.from); rests = rests_until (period_in l) t k (omega arith) (omega (arith, rest)); on = w.on; most = ends }
+
+      pub quiet_first : {r : ℕ} → r ≡ min k (period_in l - t % period_in l) → QuietGives l e t U i r
+      quiet_first {r} e = by_cases (dec_lt (period_in l - t % period_in l) k)
+          (λ h. let z : r ≡ period_in l - t % period_in l = omega arith in rw z (quiet_source h))
+          (λ n. let z : r ≡ k = omega arith in rw z (quiet_all (omega arith)))
 
 -- so many quiet ticks are worked, and r is the clock after them
 pub record JumpedGives (l e : List ℕ) (t U i : ℕ) (h : List ℕ) (r : ℕ) : Type 0 where

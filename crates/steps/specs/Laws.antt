@@ -3,12 +3,12 @@
 --   rooms-…                  the numbers of that test fit
 --   source-…                 the source's step
 --   work-…, ended-…          so many ticks of work, and whether it is all that is to be done
---   as_clean, as_unclean     the code 0 is clean, and no other is
+--   as_clean, as_unclean     a result that is Ok is clean, and no other is
 --   shows_as                 a flow shows every state with the same counts and contents
 --   finish-…                 the effect of a firing that is finished
-use Rattle.std.specs.Prelude.{◌≡◌, ◌≢◌, Bool, true, false, cond, List, [], ◌∷◌, ℕ, zero, suc, ◌+◌, ◌-◌, ◌%◌, ◌≤◌, ◌<◌, ◌^◌, ltb, leb, eqb, length, get_or, set}
+use Rattle.std.specs.Prelude.{◌≡◌, ◌≢◌, Bool, true, false, List, [], ◌∷◌, ℕ, zero, suc, ◌+◌, ◌-◌, ◌%◌, ◌≤◌, ◌<◌, ◌^◌, ltb, leb, length, get_or, set, Result, IfOk, IfErr, IsOk, IsErr}
 use Rattle.std.proofs.Math.Path.{refl, ap}
-use Rattle.std.proofs.Common.{sym, ap₂, subst, ◌∙◌, true≢false, arith, eq-eqb, ne_eqb, lt-ltb, le-ltb}
+use Rattle.std.proofs.Common.{Ok, Err, sym, ap₂, subst, ◌∙◌, true≢false, arith, eq-eqb, ne_eqb, lt-ltb, le-ltb}
 use Rattle.std.proofs.Math.Logic.{by_cases}
 use Rattle.std.proofs.Math.Decide.{dec_lt}
 use Rattle.chain.specs.declared.Chain.{Chain}
@@ -25,22 +25,23 @@ use Rattle.instants.specs.Filled.{cramped_as}
 use Rattle.instants.specs.Kept.{source_may, fired_done}
 use Rattle.instants.proofs.KeptLaws.{worked_counts, worked_held, worked_clock, works_ends, finish_may}
 use Rattle.instants.specs.Quiet.{worked_in}
-use Rattle.instants.specs.declared.Outcome.TheVariants.{Clean, Overflowed, NoDeadline}
+use Rattle.instants.specs.declared.Outcome.TheVariants.{Clean, Overflowed}
 use Rattle.instants.specs.declared.Ticked.{Ticked}
 use Rattle.traces.specs.Trace.{tracing, source_entry}
-use Rattle.steps.specs.Lent.{fired_at, outcome_as, Stands, full_in, Rooms, Sources, SourcedTo, SourcedGives, ended_at, EndsIn, Ends, FinishedTo, FinishedGives}
-use Rattle.steps.specs.declared.Step.{Step}
+use Rattle.steps.specs.Lent.{fired_at, outcome_in, fired_in, Stands, full_in, Rooms, Sources, SourcedTo, SourcedGives, ended_at, EndsIn, Ends, FinishedTo, FinishedGives}
+use Rattle.steps.specs.declared.Halt.{Halt}
+use Rattle.steps.specs.declared.Halt.TheVariants as halt
 
--- the code 0 is clean, and no other is
-pub as_clean : (k t i : ℕ) → k ≡ 0 → outcome_as k t i ≡ Clean
-as_clean k t i e = simp (eq-eqb k 0 e)
+-- a result that is Ok is clean, and no other is
+module _ {A : Type 0} where
+  pub as_clean : (r : Result A Halt) → IsOk r → outcome_in r ≡ Clean
+  as_clean (Ok a) z = refl
+  as_clean (Err h) z = absurd (true≢false (sym z))
 
-pub as_unclean : (k t i : ℕ) → k ≢ 0 → outcome_as k t i ≡ Clean → ⊥
-as_unclean k t i n = by (eqb k 1) (ne_eqb k 0 n)
-  where
-    by : (b : Bool) → eqb k 0 ≡ false → cond (eqb k 0) Clean (cond b (Overflowed t i) (NoDeadline t i)) ≡ Clean → ⊥
-    by true e h = unclean_overflow (sym (ap (λ (x : Bool). cond x Clean (Overflowed t i)) e) ∙ h)
-    by false e h = unclean_undated (sym (ap (λ (x : Bool). cond x Clean (NoDeadline t i)) e) ∙ h)
+  pub as_unclean : (r : Result A Halt) → IsErr r → outcome_in r ≡ Clean → ⊥
+  as_unclean (Ok a) z h = true≢false (sym z)
+  as_unclean (Err (halt.Overflowed t q)) z h = unclean_overflow h
+  as_unclean (Err (halt.NoDeadline t i)) z h = unclean_undated h
 
 -- whether the production of N_i does not fit, by the plan and the flow and by the chain and the state that they show
 pub full_is : {l f : List ℕ} {c : Chain} {s : Run} → Shown l f c s → (i : ℕ) → full_in l f i ≡ cramped c s i
@@ -93,12 +94,14 @@ module _ (c : Chain) (s : Run) where
   entry_own z = simp (eq-eqb _ _ z)
 
 -- a flow shows what the source's step leaves
-sourced_to : {c : Chain} {s : Run} {t : ℕ} {g : List ℕ} {r : Step} {x : Ticked} → sourced c s ≡ x → x.outcome ≡ outcome_as r.kind t 0 → Shows g c x.run
-    → (r.kind ≡ 0 → r.fired ≡ false → x ≡ clean s) → tracing x.outcome s (λ u. source_entry c s) ≡ fired_at r.fired t 0 → SourcedTo c s t g r
-sourced_to {c} {s} {t} {g} {r} e o h rests entry = record {
+sourced_to : {c : Chain} {s : Run} {t : ℕ} {g : List ℕ} {r : Result Bool Halt} {x : Ticked} → sourced c s ≡ x → x.outcome ≡ outcome_in r
+    → IfErr r (λ h. h ≡ halt.Overflowed t 0) → Shows g c x.run → IfOk r (λ fired. fired ≡ false → sourced c s ≡ clean s)
+    → tracing x.outcome s (λ u. source_entry c s) ≡ fired_at (fired_in r) t 0 → SourcedTo c s t g r
+sourced_to {c} {s} {t} {g} {r} e o spills h rests entry = record {
   outcome = ap (λ (y : Ticked). y.outcome) e ∙ o;
+  spills = spills;
   shows = subst (λ (y : Ticked). Shows g c y.run) (sym e) h;
-  rests = λ z n. e ∙ rests z n;
+  rests = rests;
   entry = ap (λ (y : Ticked). tracing y.outcome s (λ u. source_entry c s)) e ∙ entry;
 }
 
@@ -121,28 +124,28 @@ module _ {l f : List ℕ} {t : ℕ} where
   rest_is : {c : Chain} {s : Run} → Stands l f c s → s.clock ≡ t → s.clock % c.period ≡ t % period_in l
   rest_is x k = ap₂ (λ (a b : ℕ). a % b) k (sym x.shown.plans.period)
 
-  pub source_rests : t % period_in l ≢ 0 → SourcedGives l f t f (record { kind = 0; fired = false })
+  pub source_rests : t % period_in l ≢ 0 → SourcedGives l f t f (Ok false)
   unfolding tracing
   source_rests n = record {
     gives = λ {c} {s} x k.
         let late : s.clock % c.period ≢ 0 = λ z. n (sym (rest_is x k) ∙ z) in
-        sourced_to (rests c s late) refl x.shown.shows (λ z m. refl) (entry_none c s late);
+        sourced_to (rests c s late) refl tt x.shown.shows (λ n. rests c s late) (entry_none c s late);
   }
 
   module _ (z : t % period_in l ≡ 0) where
-    pub source_spills : full_in l f 0 ≡ true → SourcedGives l f t f (record { kind = 1; fired = false })
+    pub source_spills : full_in l f 0 ≡ true → SourcedGives l f t f (Err (halt.Overflowed t 0))
     unfolding tracing
     source_spills e = record {
       gives = λ {c} {s} x k.
-          sourced_to (spills c s (rest_is x k ∙ z) (sym (full_is x.shown 0) ∙ e)) (ap (λ (u : ℕ). Overflowed u 0) k) x.shown.shows (λ m. absurd (omega arith)) refl;
+          sourced_to (spills c s (rest_is x k ∙ z) (sym (full_is x.shown 0) ∙ e)) (ap (λ (u : ℕ). Overflowed u 0) k) refl x.shown.shows tt refl;
     }
 
-    pub source_fires : full_in l f 0 ≡ false → SourcedGives l f t (firing f 0) (record { kind = 0; fired = true })
+    pub source_fires : full_in l f 0 ≡ false → SourcedGives l f t (firing f 0) (Ok true)
     unfolding tracing
     source_fires e = record {
       gives = λ {c} {s} x k.
-          sourced_to (fires c s (rest_is x k ∙ z) (sym (full_is x.shown 0) ∙ e)) refl (shows_fired x.shown.shows x.filled.chain.chain (may_source x e))
-          (λ m n. absurd (true≢false n)) (entry_own c s (rest_is x k ∙ z) ∙ ap (λ (u : ℕ). (u, 0) ∷ []) k);
+          sourced_to (fires c s (rest_is x k ∙ z) (sym (full_is x.shown 0) ∙ e)) refl tt (shows_fired x.shown.shows x.filled.chain.chain (may_source x e))
+          (λ n. absurd (true≢false n)) (entry_own c s (rest_is x k ∙ z) ∙ ap (λ (u : ℕ). (u, 0) ∷ []) k);
     }
 
 -- k ticks of work as code has them, which counts from 0

@@ -1,7 +1,9 @@
 -- The steps of a tick over what a run lends: what their code asks and gives of the chain and the state that are shown.
 --   l, f, d, e               a plan, a flow, the deadline of each node's next firing, and the work done; g and h the flow and the work done afterwards
 --   fired_at b t i           the firing of N_i at t, where b says that there is one
---   outcome_as k t i         the outcome of code k, at t, with i
+--   as_outcome h, tick_of h, place_of h
+--                            what ticks end with that halt so, the clock at which, and its queue or node
+--   outcome_in r, fired_in r  the outcome of a step's result, which is clean where that is Ok; and whether it tells of a firing
 --   Stands l f c s           the plan and the flow show a state that is filled, and every count can grow
 --   full_in l f i, Rooms     whether the production of N_i does not fit, and what the code of that test asks
 --   Sources, SourcedTo, SourcedGives
@@ -13,11 +15,12 @@
 --   ended_at l e i           whether N_i has worked its execution time
 --   Ends, EndsIn, FinishedTo, FinishedGives
 --                            the same of the effect of a firing that is finished
-use Rattle.std.specs.Prelude.{◌≡◌, Bool, false, cond, ◌&&◌, List, [], ◌∷◌, ℕ, zero, suc, ◌+◌, ◌≤◌, ◌<◌, eqb, ltb, leb, get_or}
+use Rattle.std.specs.Prelude.{◌≡◌, Bool, false, cond, ◌&&◌, List, [], ◌∷◌, ℕ, zero, suc, ◌+◌, ◌≤◌, ◌<◌, ltb, leb, get_or, Option, Result, IfOk, IfErr}
+use Rattle.std.proofs.Common.{Some, None, Ok, Err}
 use Rattle.chain.specs.Refusals.{fine, refused, Silent}
 use Rattle.chain.specs.Record.{work_of}
 use Rattle.chain.specs.Sound.{Sound}
-use Rattle.chain.specs.declared.Refusal.{Refusal}
+use Rattle.chain.specs.Refusal.{Refusal}
 use Rattle.chain.specs.declared.Chain.{Chain}
 use Rattle.sizing.specs.Checks.{limit}
 use Rattle.state.specs.State.{count_at, done_at}
@@ -33,15 +36,35 @@ use Rattle.instants.specs.Filled.{Filled}
 use Rattle.instants.specs.declared.Outcome.{Outcome}
 use Rattle.instants.specs.declared.Outcome.TheVariants.{Clean, Overflowed, NoDeadline}
 use Rattle.traces.specs.Trace.{tracing, source_entry}
-use Rattle.steps.specs.declared.Step.{Step}
+use Rattle.steps.specs.declared.Halt.{Halt}
+use Rattle.steps.specs.declared.Halt.TheVariants as halt
 
 -- the firing of N_i at t, where there is one
 abbrev pub fired_at : Bool → ℕ → ℕ → List Entry
 fired_at b t i = cond b ((t, i) ∷ []) []
 
--- the outcome of code k, at t, with the queue or node i
-abbrev pub outcome_as : ℕ → ℕ → ℕ → Outcome
-outcome_as k t i = cond (eqb k 0) Clean (cond (eqb k 1) (Overflowed t i) (NoDeadline t i))
+-- what ticks end with that halt so, the clock at which they do, and the queue or node of which they do
+abbrev pub as_outcome : Halt → Outcome
+as_outcome (halt.Overflowed t q) = Overflowed t q
+as_outcome (halt.NoDeadline t i) = NoDeadline t i
+
+abbrev pub tick_of : Halt → ℕ
+tick_of (halt.Overflowed t q) = t
+tick_of (halt.NoDeadline t i) = t
+
+abbrev pub place_of : Halt → ℕ
+place_of (halt.Overflowed t q) = q
+place_of (halt.NoDeadline t i) = i
+
+-- the outcome that a step's result tells
+abbrev pub outcome_in : {A : Type 0} → Result A Halt → Outcome
+outcome_in (Ok a) = Clean
+outcome_in (Err h) = as_outcome h
+
+-- whether it tells of a firing
+abbrev pub fired_in : Result Bool Halt → Bool
+fired_in (Ok b) = b
+fired_in (Err h) = false
 
 -- the plan and the flow show a state that is filled, and every count can grow
 pub record Stands (l f : List ℕ) (c : Chain) (s : Run) : Type 0 where
@@ -69,14 +92,15 @@ pub record Sources (l f : List ℕ) (t : ℕ) : Type 0 where
   pub clock : run.clock ≡ t
 
 -- what it makes of one state; the source's firing is the trace's
-pub record SourcedTo (c : Chain) (s : Run) (t : ℕ) (g : List ℕ) (r : Step) : Type 0 where
-  pub outcome : (sourced c s).outcome ≡ outcome_as r.kind t 0
+pub record SourcedTo (c : Chain) (s : Run) (t : ℕ) (g : List ℕ) (r : Result Bool Halt) : Type 0 where
+  pub outcome : (sourced c s).outcome ≡ outcome_in r
+  pub spills : IfErr r (λ h. h ≡ halt.Overflowed t 0)
   pub shows : Shows g c (sourced c s).run
-  pub rests : r.kind ≡ 0 → r.fired ≡ false → sourced c s ≡ clean s
-  pub entry : tracing (sourced c s).outcome s (λ u. source_entry c s) ≡ fired_at r.fired t 0
+  pub rests : IfOk r (λ fired. fired ≡ false → sourced c s ≡ clean s)
+  pub entry : tracing (sourced c s).outcome s (λ u. source_entry c s) ≡ fired_at (fired_in r) t 0
 
 -- and of every state that is shown
-pub record SourcedGives (l f : List ℕ) (t : ℕ) (g : List ℕ) (r : Step) : Type 0 where
+pub record SourcedGives (l f : List ℕ) (t : ℕ) (g : List ℕ) (r : Result Bool Halt) : Type 0 where
   pub gives : {c : Chain} {s : Run} → Stands l f c s → s.clock ≡ t → SourcedTo c s t g r
 
 -- of each node over threshold the deadline of its next firing is kept, or never
@@ -87,12 +111,13 @@ pub record Keeps (d : List ℕ) (c : Chain) (s : Run) : Type 0 where
 pub record Looks (f : List ℕ) : Type 0 where
   pub size : size_in f ≤ 16
 
--- 13 with node r, or nothing
-abbrev pub lack_of : ℕ → Refusal
-lack_of r = cond (eqb r 0) fine (refused 13 r)
+-- 13 with a node, or nothing
+abbrev pub lack_of : Option ℕ → Refusal
+lack_of None = fine
+lack_of (Some i) = refused 13 i
 
 -- what 13 gives
-pub record LackingGives (f d : List ℕ) (r : ℕ) : Type 0 where
+pub record LackingGives (f d : List ℕ) (r : Option ℕ) : Type 0 where
   pub gives : {c : Chain} {s : Run} → Sound c → Shows f c s → Keeps d c s → lacking c s ≡ lack_of r
 
 -- what the choice gives where 13 is silent

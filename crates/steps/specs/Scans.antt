@@ -8,7 +8,7 @@
 --   chosen_none, -taken, -under, -later, -end
 --                            at the start, with node j+1 chosen, past it where it is below threshold or later, and at the end
 use Rattle.std.proofs.Math.Path.{◌≡◌, refl, ap}
-use Rattle.std.proofs.Common.{sym, subst, ◌∙◌, add-one, arith, ne_eqb, le-leb}
+use Rattle.std.proofs.Common.{Some, None, sym, subst, ◌∙◌, add-one, arith, le-leb}
 use Rattle.std.specs.Prelude.{◌≢◌, Bool, ◌&&◌, List, ℕ, zero, suc, ◌+◌, ◌≤◌, ◌<◌, get_or}
 use Rattle.std.proofs.Math.Logic.{by_cases}
 use Rattle.std.proofs.Math.Bool.{true, false, cond}
@@ -42,8 +42,8 @@ module _ {f : List ℕ} {c : Chain} {s : Run} (x : Shows f c s) (j : ℕ) (l : j
   not_over h o = absurd (omega (arith, h, o, x.waits j l, x.holds j (omega (arith, x.few))))
 
 -- 13 of N_(j+1), which code counts from 0
-lack_at : (j : ℕ) → refused 13 (suc j) ≡ lack_of (j + 1)
-lack_at j = let n : suc j ≢ 0 = λ e. omega arith in rw add-one (simp (ne_eqb (suc j) 0 n))
+lack_at : (j : ℕ) → refused 13 (suc j) ≡ lack_of (Some (j + 1))
+lack_at j = rw add-one
 
 -- 13 says nothing of the first j nodes
 pub record Looked (f d : List ℕ) (j : ℕ) : Type 0 where
@@ -65,7 +65,7 @@ module _ {f d : List ℕ} {j : ℕ} (a : Looked f d j) (h : j < size_in f) where
   looked_dated some = looked_more (λ c s k x e l. (lack_silent c s (suc j)).1 (λ o.
       by_cases (ℕ_discrete (index_check c (suc j) (next s (suc j))).number 0) (λ z. z) (λ n. absurd (some (e.due j l o ∙ (dated_exact k (suc j) (next s (suc j))).1 n)))))
 
-  pub looked_found : threshold_in f j ≤ held_in f j → get_or d j 0 ≡ never → LackingGives f d (j + 1)
+  pub looked_found : threshold_in f j ≤ held_in f j → get_or d j 0 ≡ never → LackingGives f d (Some (j + 1))
   unfolding lacking
   looked_found o z = record {
     gives = λ {c} {s} k x e.
@@ -76,11 +76,13 @@ module _ {f d : List ℕ} {j : ℕ} (a : Looked f d j) (h : j < size_in f) where
         ∙ lack_at j;
   }
 
-pub looked_end : {f d : List ℕ} {j : ℕ} → Looked f d j → size_in f ≤ j → LackingGives f d 0
+pub looked_end : {f d : List ℕ} {j : ℕ} → Looked f d j → size_in f ≤ j → LackingGives f d None
 unfolding lacking
 looked_end {f} {d} {j} a h = record {
   gives = λ {c} {s} k x e. first_fine (tab c.n (λ m. lacking_test c s (suc m))) ((all_silent (λ m. lacking_test c s (suc m)) c.n).1 (λ m g. a.silent k x e m (omega (arith, x.many))));
 }
+
+pub ruleset looking = (looked_rests, looked_dated, looked_found, looked_end)
 
 -- the deadline of the choice so far, or never
 abbrev pub earliest_of : Chain → Run → ℕ → ℕ

@@ -3,10 +3,11 @@
 --   Lends                    there is such a state, and every count can grow
 --   lent_once, lends_once    a filled state, poured into a flow, whose clock and counts can grow, is lent for one tick
 --   lent_fresh, lends_fresh  a fresh start is lent for as many as the longest run
---   RanTo c x g h r          the flow g, the work done h and the answer r show x, what ticks leave
+--   clock_in r               the clock that ticks with the result r leave
+--   RanTo c x g h r          the flow g, the work done h and the result r show x, what ticks leave
 --   RanGives l f e t T g h r they show what T ticks leave of every such state
-use Rattle.std.specs.Prelude.{◌≡◌, refl, ◌≢◌, List, ℕ, ◌+◌, ◌≤◌, ◌<◌, replicate}
-use Rattle.std.proofs.Common.{arith}
+use Rattle.std.specs.Prelude.{◌≡◌, refl, ◌≢◌, List, ℕ, ◌+◌, ◌≤◌, ◌<◌, replicate, Result, IfErr}
+use Rattle.std.proofs.Common.{Ok, Err, arith}
 use Rattle.chain.specs.declared.Chain.{Chain}
 use Rattle.sizing.specs.Checks.{limit}
 use Rattle.sizing.specs.Plan.{Plans}
@@ -22,8 +23,8 @@ use Rattle.instants.specs.Filled.{Filled}
 use Rattle.instants.proofs.FilledLaws.{running_filled}
 use Rattle.instants.proofs.FreshLaws.{fresh_running}
 use Rattle.instants.specs.declared.Ticked.{Ticked}
-use Rattle.steps.specs.Lent.{outcome_as}
-use Rattle.ticks.specs.declared.Ended.{Ended}
+use Rattle.steps.specs.Lent.{tick_of, place_of, outcome_in}
+use Rattle.steps.specs.declared.Halt.{Halt}
 
 -- a state that is filled is lent at its clock t; T ticks are no longer than the longest run, and no count passes the limit in them
 pub record LendsIn (l f e : List ℕ) (t T : ℕ) (c : Chain) (s : Run) : Type 0 where
@@ -75,14 +76,19 @@ module _ {p f : List ℕ} {c : Chain} (plans : Plans p c) (shows : Shows f c (fr
   pub lends_fresh : Lends p f (replicate 16 0) 0 T
   lends_fresh = record { chain = c; run = fresh_run c; lends = lent_fresh; counts = λ i h. omega (arith, fresh_count c i) }
 
--- the flow g, the work done h and the answer r show what ticks leave
-pub record RanTo (c : Chain) (x : Ticked) (g h : List ℕ) (r : Ended) : Type 0 where
-  pub outcome : x.outcome ≡ outcome_as r.kind r.tick r.at
-  pub clock : x.run.clock ≡ r.tick
+-- the clock that ticks leave: after the last, or where they halt
+abbrev pub clock_in : Result ℕ Halt → ℕ
+clock_in (Ok t) = t
+clock_in (Err h) = tick_of h
+
+-- the flow g, the work done h and the result r show what ticks leave
+pub record RanTo (c : Chain) (x : Ticked) (g h : List ℕ) (r : Result ℕ Halt) : Type 0 where
+  pub outcome : x.outcome ≡ outcome_in r
+  pub clock : x.run.clock ≡ clock_in r
   pub shows : Shows g c x.run
   pub done : h ≡ x.run.done
 
 -- they show what T ticks leave of every such state
-pub record RanGives (l f e : List ℕ) (t T : ℕ) (g h : List ℕ) (r : Ended) : Type 0 where
-  pub low : r.at ≤ 16
+pub record RanGives (l f e : List ℕ) (t T : ℕ) (g h : List ℕ) (r : Result ℕ Halt) : Type 0 where
+  pub low : IfErr r (λ x. place_of x ≤ 16)
   pub gives : {c : Chain} {s : Run} → LendsIn l f e t T c s → RanTo c (ticks c T s) g h r

@@ -13,7 +13,7 @@ use Rattle.std.proofs.Math.Dec.{eqb}
 use Rattle.words.specs.Table.{tab, tab_alike}
 use Rattle.chain.specs.Refusals.{test, first, or_else}
 use Rattle.chain.specs.Record.{work_of}
-use Rattle.chain.specs.declared.Refusal.{Refusal}
+use Rattle.chain.specs.Refusal.{Refusal}
 use Rattle.chain.specs.declared.Chain.{Chain}
 use Rattle.sizing.specs.Checks.{limit}
 use Rattle.state.specs.State.{done_at}

@@ -2,7 +2,7 @@
 --   AlikeAnswers n x y       answers that are the same but for slots past n of the state
 use Rattle.std.specs.Prelude.{◌≡◌, ℕ}
 use Rattle.slots.specs.Runs.{AlikeRuns}
-use Rattle.instants.specs.declared.TickAnswer.{TickAnswer}
+use Rattle.instants.specs.Answered.{TickAnswer}
 
 -- two answers that agree on all but the slots past n of the state
 pub record AlikeAnswers (n : ℕ) (x y : TickAnswer) : Type 0 where

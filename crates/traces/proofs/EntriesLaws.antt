@@ -35,7 +35,7 @@ use Rattle.instants.proofs.TotalsLaws.{tick_source, run_clock}
 use Rattle.instants.specs.declared.Outcome.{Outcome}
 use Rattle.instants.specs.declared.Outcome.TheVariants.{Clean, Overflowed, NoDeadline}
 use Rattle.instants.specs.declared.Ticked.{Ticked}
-use Rattle.instants.specs.declared.TickAnswer.{TickAnswer}
+use Rattle.instants.specs.Answered.{TickAnswer}
 use Rattle.traces.specs.Trace.{tracing, source_entry, finish_entry, finish_trace, tick_trace, trace}
 use Rattle.traces.proofs.TracedLaws.{run_counted}
 use Rattle.traces.specs.Rising.{Rising}

@@ -5,3 +5,4 @@ pub mod Words
 pub mod Rows
 pub mod Reader
 pub mod Literal
+pub mod Writer

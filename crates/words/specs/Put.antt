@@ -6,13 +6,15 @@
 --   puts_none, then     no text; one writer after the other
 --   puts_length         a writer keeps the length
 --   puts_take           a copy, one byte more
+--   puts_part           a copy into the part of a slice that begins at i and is as long as the text
 --   taken               the text stands at the front of what it was written to
 -- "Stored" is the library's `sets`, to which a store past the end is none, so only `put_front` and `taken` ask for room.
-use Rattle.std.specs.Prelude.{◌≡◌, refl, ◌≢◌, List, [], ◌∷◌, ◌++◌, ℕ, suc, ◌+◌, ◌≤◌, ◌<◌, length, get_or, set, take, drop}
-use Rattle.std.proofs.Common.{sym, ap, ◌∙◌, add-zero, zero-add, add-suc, suc-add, add-one, arith, length-append, take-suc, take_at}
+use Rattle.std.specs.Prelude.{◌≡◌, refl, ◌≢◌, List, [], ◌∷◌, ◌++◌, ℕ, suc, ◌+◌, ◌-◌, ◌≤◌, ◌<◌, length, get_or, set, take, drop}
+use Rattle.std.proofs.Common.{sym, ap, ◌∙◌, add-zero, zero-add, add-suc, suc-add, add-one, arith, length-append, append_assoc, take-suc, drop-drop, take_at}
 use Rattle.std.proofs.lemmas.List.Edits.{sets, sets-eq}
 use Rattle.std.proofs.lemmas.List.{set_comm}
 use Rattle.std.proofs.Math.Seq.{length-sets}
+use borrow.Rule.Slice.PartMut.{put_mid}
 
 -- k bytes from place i on lie inside l
 pub record Room (l : List ℕ) (i k : ℕ) : Type 0 where
@@ -57,6 +59,11 @@ pub puts_take : {l m : List ℕ} {at k : ℕ} (s : List ℕ) (i : ℕ) → i < l
 puts_take {l} {m} {at} {k} s i h p =
     let one : Puts m k (get_or s i 0 ∷ []) (set m k (get_or s i 0)) (k + 1) = record { next = refl; holds = refl } in
     rw (add-one i, take-suc s i 0 h) (then p one)
+
+pub puts_part : {l t m : List ℕ} {i k : ℕ} → i + length t ≤ length l → k ≡ i + length t → m ≡ t → Puts l i t (put_mid i (k - i) l m) k
+puts_part {l} {t} {m} {i} {k} room e f =
+    let wide : k - i ≡ length t = omega arith in
+    record { next = e; holds = rw (f, wide, sets-eq t l i room, drop-drop (length t) i l, append_assoc) }
 
 pub taken : {l t m : List ℕ} {k : ℕ} → Puts l 0 t m k → k ≤ length l → take k m ≡ t
 taken {l} {t} {m} {k} p h =

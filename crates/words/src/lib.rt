@@ -1,16 +1,17 @@
-// Little-endian words of 32 bits on the caller's own bytes: a word, or a queue row of five, taken by a reader that keeps
-// its place, and written where there is room. Nothing else looks at a byte of a chain file.
+// Little-endian words of 32 bits on the caller's own bytes: a word, or a queue row of five, taken by a reader and written
+// by a writer where there is room. Both keep their place. Nothing else looks at a byte of a chain file.
 #![tactic(auto)]
 
-ghost use Rattle.std.specs.Prelude.{◌≡◌, ◌∷◌, [], ◌+◌, ◌*◌, ◌/◌, ◌%◌};
-ghost use Rattle.words.specs.Put.{Room, Puts};
+ghost use Rattle.std.specs.Prelude.{◌≡◌, ◌∷◌, [], length};
+ghost use Rattle.words.specs.Put.{Room};
+ghost use Rattle.words.specs.Writer.{Begins, Free, Wrote};
 ghost use Rattle.words.specs.Words.{bytes_of, word_at};
 ghost use Rattle.words.specs.Rows.{row, row_at};
 ghost use Rattle.words.specs.Reader.{moved};
 
 // A queue row: produce, threshold and consume of 01, the capacity B and the reserved word.
 #[repr(C)]
-#[derive(Clone, Copy)]
+#[derive(Clone, Copy, PartialEq, Eq)]
 pub struct Queue {
     pub produce: u32,
     pub threshold: u32,
@@ -26,7 +27,7 @@ pub struct ChainReader<'a> {
     pub at: usize,
 }
 
-// The row of a slot that no queue has.
+// The row of a slot that no queue has: all zero, as C's record holds it, so no `Option` stands in a slot.
 pub const NONE: Queue = Queue {
     produce: 0,
     threshold: 0,
@@ -35,59 +36,91 @@ pub const NONE: Queue = Queue {
     reserved: 0,
 };
 
-// A reader at a place of the bytes.
-pub fn seek<'a>(bytes: &'a [u8], at: usize) -> ChainReader<'a>
-    ensures { (result.bytes ≡ bytes.entry) × (result.at ≡ at) }
-{
-    ChainReader { bytes, at }
+impl<'a> ChainReader<'a> {
+    // A reader at a place of the bytes.
+    pub fn new(bytes: &'a [u8], at: usize) -> Self
+        ensures { (result.bytes ≡ bytes.entry) × (result.at ≡ at) }
+    {
+        ChainReader { bytes, at }
+    }
+
+    // The word at the reader's place; the reader moves on behind it.
+    pub fn take(&mut self) -> u32
+        requires { Room self.old.bytes.now self.old.at 4 }
+        ensures { (result ≡ word_at self.old.bytes.now self.old.at)
+            × (self.new ≡ moved 4 self.old) }
+    {
+        let w = word(self.bytes, self.at);
+        self.at += 4;
+        w
+    }
+
+    // The queue row at the reader's place; the reader moves on behind it.
+    pub fn take_row(&mut self) -> Queue
+        requires { Room self.old.bytes.now self.old.at 20 }
+        ensures { (result ≡ row_at self.old.bytes.now self.old.at)
+            × (self.new ≡ moved 20 self.old) }
+    {
+        let q = row(self.bytes, self.at);
+        self.at += 20;
+        q
+    }
 }
 
-// The word at the reader's place; the reader moves on behind it.
-pub fn take<'s, 'a>(reader: &'s mut ChainReader<'a>) -> u32
-    requires { Room reader.old.bytes.now reader.old.at 4 }
-    ensures { (result ≡ word_at reader.old.bytes.now reader.old.at)
-        × (reader.new ≡ moved 4 reader.old) }
-{
-    let at = reader.at;
-    let w = word(reader.bytes, at);
-    reader.at = at + 4;
-    w
+// A writer on the caller's own bytes: it borrows them, and keeps the place that it has come to.
+#[derive(Drop)]
+pub struct Writer<'a> {
+    pub out: &'a mut [u8],
+    pub at: usize,
 }
 
-// The queue row at the reader's place; the reader moves on behind it.
-pub fn take_row<'s, 'a>(reader: &'s mut ChainReader<'a>) -> Queue
-    requires { Room reader.old.bytes.now reader.old.at 20 }
-    ensures { (result ≡ row_at reader.old.bytes.now reader.old.at)
-        × (reader.new ≡ moved 20 reader.old) }
-{
-    let at = reader.at;
-    let r = row(reader.bytes, at);
-    reader.at = at + 20;
-    r
-}
+impl<'a> Writer<'a> {
+    // A writer at the front of the bytes.
+    pub fn new(out: &'a mut [u8]) -> Self
+        ensures { Begins out.entry result }
+    {
+        Writer { out, at: 0 }
+    }
 
-// Writes a word at `at`, and answers the place behind it.
-pub fn put_word(out: &mut [u8], at: usize, w: u32) -> usize
-    requires { Room out.old at 4 }
-    ensures { Puts out.old at (bytes_of (w ∷ [])) out.new result }
-{
-    out[at] = low(w);
-    out[at + 1] = low(w / 256);
-    out[at + 2] = low(w / 65536);
-    out[at + 3] = low(w / 16777216);
-    at + 4
-}
+    // Writes one byte.
+    pub fn byte(&mut self, b: u8)
+        requires { Free self.old 1 }
+        ensures { Wrote self.old (b ∷ []) self.new }
+    {
+        self.out[self.at] = b;
+        self.at += 1;
+    }
 
-// Writes a queue row at `at`, and answers the place behind it.
-pub fn put_row(out: &mut [u8], at: usize, q: Queue) -> usize
-    requires { Room out.old at 20 }
-    ensures { Puts out.old at (bytes_of (row q)) out.new result }
-{
-    let a = put_word(out, at, q.produce);
-    let b = put_word(out, a, q.threshold);
-    let c = put_word(out, b, q.consume);
-    let d = put_word(out, c, q.capacity);
-    put_word(out, d, q.reserved)
+    // Writes a copy of `text`.
+    pub fn bytes(&mut self, text: &[u8])
+        requires { Free self.old (length text.now) }
+        ensures { Wrote self.old text.now self.new }
+    {
+        let end = self.at + text.len();
+        self.out[self.at..end].copy_from_slice(text);
+        self.at = end;
+    }
+
+    // Writes a word.
+    pub fn word(&mut self, w: u32)
+        requires { Free self.old 4 }
+        ensures { Wrote self.old (bytes_of (w ∷ [])) self.new }
+    {
+        self.bytes(&w.to_le_bytes());
+    }
+
+    // Writes a queue row.
+    #[tactic(auto, unfolding(crate::specs::Words::bytes_of))]
+    pub fn row(&mut self, q: Queue)
+        requires { Free self.old 20 }
+        ensures { Wrote self.old (bytes_of (row q)) self.new }
+    {
+        self.word(q.produce);
+        self.word(q.threshold);
+        self.word(q.consume);
+        self.word(q.capacity);
+        self.word(q.reserved);
+    }
 }
 
 // The five words of a queue row, all of which are there.
@@ -109,19 +142,5 @@ fn word(bytes: &[u8], at: usize) -> u32
     requires { Room bytes.now at 4 }
     ensures { result ≡ word_at bytes.now at }
 {
-    joined(bytes[at], bytes[at + 1], bytes[at + 2], bytes[at + 3])
-}
-
-// Four bytes, the lowest first, as one number.
-fn joined(b0: u8, b1: u8, b2: u8, b3: u8) -> u32
-    ensures { result ≡ b0 + 256 * b1 + 65536 * b2 + 16777216 * b3 }
-{
-    (b0 as u32) + 256 * (b1 as u32) + 65536 * (b2 as u32) + 16777216 * (b3 as u32)
-}
-
-// The lowest byte of a word.
-fn low(w: u32) -> u8
-    ensures { result ≡ w % 256 }
-{
-    (w % 256) as u8
+    u32::from_le_bytes([bytes[at], bytes[at + 1], bytes[at + 2], bytes[at + 3]])
 }

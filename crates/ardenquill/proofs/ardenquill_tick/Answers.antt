@@ -1,29 +1,30 @@
 -- Where the answer is not clean nothing is stored, and the state that the tick answers is the one handed in (`unclean_stays`).
-use Rattle.std.proofs.Common.{rules, ◌≡◌, Bool, false, not, T, sym, ap, subst, ◌∙◌}
+use Rattle.std.proofs.Common.{rules, ◌≡◌, Bool, not, T, sym, ap, subst, ◌∙◌}
 use Rattle.chain.specs.declared.Chain.{Chain}
 use Rattle.state.specs.declared.Run.{Run}
 use Rattle.slots.specs.Runs.{Whole}
-use Rattle.instants.specs.declared.TickAnswer.{TickAnswer}
+use Rattle.instants.specs.Answered.{TickAnswer}
 use Rattle.tickslots.proofs.AnswersLaws.{past_kept}
 use Rattle.ardenquill.specs.declared.OutcomeAnswer.{OutcomeAnswer}
 use Rattle.ardenquill.specs.Ticks.{tick_answer}
 use Rattle.ardenquill.specs.Flat.{coded, is_clean}
 use Rattle.ardenquill.proofs.FlatLaws.{unclean_stays}
 use Rattle.ardenquill.proofs.ardenquill_tick.Goals as goal
+use Rattle.ardenquill.proofs.ardenquill_tick.Goals.{in-Ok, in-Err}
 
 -- a state has all its slots where the state that its tick answers has them
 whole_before : (c : Chain) (s : Run) → Whole (tick_answer c s).run → Whole s
 whole_before c s w = let k = past_kept c s in record { counts = sym k.counts.long ∙ w.counts; held = sym k.held.long ∙ w.held; done = sym k.done.long ∙ w.done }
 
--- an answer that is not clean
-unclean : (c : Chain) (s : Run) (a : TickAnswer) (d : OutcomeAnswer) (y : Bool) → a ≡ tick_answer c s → Whole a.run → d ≡ coded a → y ≡ is_clean d → y ≡ false
-    → (s ≡ (tick_answer c s).run) × (d ≡ coded (tick_answer c s))
-unclean c s a d y e w f g n =
-    let says = f ∙ ap (λ (b : TickAnswer). coded b) e in
-    let whole = whole_before c s (subst (λ (b : TickAnswer). Whole b.run) e w) in
-    (sym (unclean_stays c s whole (subst (λ (b : Bool). T (not b)) (sym n ∙ g ∙ ap (λ (b : OutcomeAnswer). is_clean b) says) tt)), says)
-
 pub returns-else-is_clean : goal.returns-else-is_clean
-returns-else-is_clean c =
-    let whole : Whole c.tick-answer.result.run = search rules in
-    unclean _ _ _ _ _ c.tick-answer.ensures whole c.coded-code.ensures c.is_clean.ensures c.if-is_clean.false
+returns-else-is_clean c = elim c.match-ticked.branch [
+  | in-Ok w ↦
+      let is = rw w.in-Ok.is at c.tick-ticked.ensures in
+      let says : c.match-ticked.code ≡ coded (tick_answer _ _) = w.code-is ∙ w.into-code.ensures ∙ ap (λ (a : TickAnswer). coded a) is in
+      let whole : Whole w.in-Ok.left.run = search rules in
+      let unclean = subst (λ (b : Bool). T (not b)) (sym c.if-is_clean.false ∙ c.is_clean.ensures ∙ ap (λ (a : OutcomeAnswer). is_clean a) says) tt in
+      (sym (unclean_stays _ _ (whole_before _ _ (subst (λ (a : TickAnswer). Whole a.run) is whole)) unclean), says)
+  | in-Err w ↦
+      let is = rw w.in-Err.is at c.tick-ticked.ensures in
+      (ap (λ (a : TickAnswer). a.run) is, w.code-is ∙ w.into-code-in-Err.ensures ∙ ap (λ (a : TickAnswer). coded a) is)
+]

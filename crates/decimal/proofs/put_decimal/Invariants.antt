@@ -1,16 +1,17 @@
 -- Storing the digits that are left now gives what storing all of them gave at first.
-use Rattle.std.proofs.Common.{◌≡◌, ◌+◌, ◌≤◌, length}
+use Rattle.std.proofs.Common.{◌≡◌, ◌-◌, length}
 use Rattle.std.proofs.lemmas.List.Edits.{sets}
 use Rattle.decimal.specs.Digits.{decimal}
+use Rattle.decimal.proofs.Digits.{left}
 use Rattle.decimal.proofs.put_decimal.Given as goal
 
-abbrev pub invariant-loop-rest : goal.invariant-loop-rest
-invariant-loop-rest l = record {
-  place : l.i ≡ l.at + length (decimal l.rest);
-  within : l.i ≤ l.at + 10;
-  same_length : length l.out ≡ length l.fn.out;
-  stored : sets l.out l.at (decimal l.rest) ≡ sets l.fn.out l.at (decimal l.n);
-}
-
-abbrev pub decreases-loop-rest : goal.decreases-loop-rest
-decreases-loop-rest l = l.rest
+abbrev pub invariant-loop-i : goal.invariant-loop-i
+invariant-loop-i l =
+    let v = l.fn.out in
+    let w = l.out in
+    record {
+      same : w.out.ghost_name ≡ v.out.ghost_name;
+      place : w.at ≡ v.at;
+      as_many : l.i - w.at ≡ length (left (l.i - w.at) l.rest);
+      stored : sets w.out.now w.at (left (l.i - w.at) l.rest) ≡ sets v.out.now w.at (decimal l.n);
+    }

@@ -1,4 +1,4 @@
--- `flow::consume` meets its contract: there is enough to take.
+-- `flow::consume` meets its contract: a node that has an input queue takes from it, and the source from none.
 use Rattle.std.proofs.Common.{◌≡◌, refl, List, ℕ, zero, suc, ◌+◌, ◌-◌, ◌≤◌, ◌<◌, arith, set}
 use Rattle.flow.specs.Flow.{consume_in, held_in, taken_out}
 use Rattle.flow.proofs.consume.Goals as goal
@@ -12,9 +12,6 @@ none-taken : (l : List ℕ) (i : ℕ) → i ≤ 0 → l ≡ taken_out l i
 unfolding taken_out
 none-taken l zero h = refl
 none-taken l (suc j) h = absurd (omega arith)
-
-pub overflow_sub-flow : goal.overflow_sub-flow
-overflow_sub-flow c = c.requires.enough _ (omega (arith, c.if-i-gt0.true))
 
 pub returns-then-i-gt0 : goal.returns-then-i-gt0
 returns-then-i-gt0 c = taken _ _ c.if-i-gt0.true

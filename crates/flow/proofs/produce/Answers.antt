@@ -1,10 +1,7 @@
--- `flow::produce` meets its contract: the sum fits.
+-- `flow::produce` meets its contract: a queue behind the node gets what is produced.
 use Rattle.std.proofs.Common.{zero-add, lt-ltb, le-ltb}
 use Rattle.flow.specs.Flow.{put_in}
 use Rattle.flow.proofs.produce.Goals as goal
-
-pub overflow_add-flow-then-i-n-2 : goal.overflow_add-flow-then-i-n-2
-overflow_add-flow-then-i-n-2 c = record { fits = rw zero-add (c.requires.fits c.if-i-n.true) }
 
 pub returns-then-i-n : goal.returns-then-i-n
 unfolding put_in

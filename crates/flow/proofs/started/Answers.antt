@@ -1,13 +1,9 @@
 -- `flow::started`: the goals that the check leaves, with the invariant of `Invariants.antt`.
-use Rattle.std.proofs.Common.{zero-add}
-use Rattle.flow.specs.Shown.{entered_none, entered_more, entered_shows}
+use Rattle.flow.specs.Shown.{entered_none, entered_shows}
 use Rattle.flow.proofs.started.Goals as goal
 
 pub loop-i-init : goal.loop-i-init
 loop-i-init c = entered_none _
-
-pub loop-i-preserved : goal.loop-i-preserved
-loop-i-preserved c = rw zero-add (entered_more c.requires.count.1 c.loop-i.invariant c.loop-i-test.true)
 
 pub returns : goal.returns
 returns c = entered_shows c.requires c.loop-i-test.false c.loop-i.invariant

@@ -1,10 +1,6 @@
 -- `flow::started` meets its contract: before queue i is filled in, the rows before it are, and no count or contents are there.
-use Rattle.std.proofs.Common.{◌-◌}
 use Rattle.flow.specs.Shown.{Entered}
 use Rattle.flow.proofs.started.Given as goal
 
 abbrev pub invariant-loop-i : goal.invariant-loop-i
 invariant-loop-i l = Entered l.chain l.i l.flow
-
-abbrev pub decreases-loop-i : goal.decreases-loop-i
-decreases-loop-i l = l.n - l.i

@@ -3,17 +3,14 @@ use Rattle.std.proofs.Common.{◌∙◌}
 use Rattle.immediate.proofs.LentLaws.{driving_none, driving_fire, driving_more, driving_done}
 use Rattle.immediate.proofs.driven.Goals as goal
 
-pub started-flow-requires : goal.started-flow-requires
-started-flow-requires c = c.requires.accepted.chain
-
-pub loop-m-init : goal.loop-m-init
-loop-m-init c = driving_none _ _
+pub loop-init : goal.loop-init
+loop-init c = driving_none _ _
 
 pub fire-requires : goal.fire-requires
-fire-requires c = driving_fire c.loop-m.invariant c.requires c.started-flow.ensures c.loop-m-test.true
+fire-requires c = driving_fire c.loop.invariant c.requires c.started-flow.ensures c.loop-test.true
 
-pub loop-m-preserved : goal.loop-m-preserved
-loop-m-preserved c = driving_more c.loop-m.invariant c.loop-m-test.true c.fire.ensures
+pub loop-preserved : goal.loop-preserved
+loop-preserved c = driving_more c.loop.invariant c.loop-test.true c.fire.ensures
 
 pub returns : goal.returns
-returns c = c.shown.ensures ∙ driving_done c.loop-m.invariant c.requires c.started-flow.ensures c.loop-m-test.false
+returns c = c.shown.ensures ∙ driving_done c.loop.invariant c.requires c.started-flow.ensures c.loop-test.false

@@ -1,10 +1,6 @@
--- `immediate::driven` meets its contract: before the source fires for the m-th time, the flow shows m firings, all settled.
-use Rattle.std.proofs.Common.{◌-◌}
+-- `immediate::driven` meets its contract: before the source fires again, the flow shows its firings so far, all settled.
 use Rattle.immediate.specs.Lent.{Driving}
 use Rattle.immediate.proofs.driven.Given as goal
 
-abbrev pub invariant-loop-m : goal.invariant-loop-m
-invariant-loop-m l = Driving l.k l.initial.flow l.m l.flow
-
-abbrev pub decreases-loop-m : goal.decreases-loop-m
-decreases-loop-m l = l.k - l.m
+abbrev pub invariant-loop : goal.invariant-loop
+invariant-loop l = Driving l.k l.initial.flow l.counter l.flow

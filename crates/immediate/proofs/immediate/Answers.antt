@@ -1,22 +1,20 @@
 -- `immediate::immediate` meets its contract: the chain may not run, or a count would pass the limit, or the run is driven.
-use Rattle.std.proofs.Common.{◌∙◌}
+use Rattle.std.proofs.Common.{arith}
+use Rattle.std.proofs.lemmas.Grind.{common_steps}
 use Rattle.immediate.proofs.Answers.{chain_refuses, sound_chain, length_refuses, bounds, ran}
 use Rattle.immediate.proofs.immediate.Goals as goal
 
-pub returns-then-sized-ne0 : goal.returns-then-sized-ne0
-returns-then-sized-ne0 c = c.given_back.ensures ∙ chain_refuses _ _ c.checked_for_run-sized.ensures c.if-sized-ne0.true
+pub returns-in_err-planned_for_run : goal.returns-in_err-planned_for_run
+returns-in_err-planned_for_run c = grind (arith, common_steps, chain_refuses _ c.args.k _ c.in_err-planned_for_run.ensures.says)
 
-pub too_long-long-requires : goal.too_long-long-requires
-too_long-long-requires c = sound_chain _ c.args.k c.checked_for_run-sized.ensures c.if-sized-ne0.false
+pub check_length-requires : goal.check_length-requires
+check_length-requires c = sound_chain _ c.args.k c.in_ok-planned_for_run.ensures.says
 
-pub returns-then-long-ne0 : goal.returns-then-long-ne0
-returns-then-long-ne0 c =
-    c.given_back-then-long-ne0.ensures ∙ length_refuses _ _ c.checked_for_run-sized.ensures c.if-sized-ne0.false c.too_long-long.ensures c.if-long-ne0.true
+pub returns-in_err-check_length : goal.returns-in_err-check_length
+returns-in_err-check_length c = grind (arith, common_steps, length_refuses _ c.args.k c.in_ok-planned_for_run.ensures.says _ c.in_err-check_length.ensures)
 
 pub driven-requires : goal.driven-requires
-driven-requires c =
-    bounds _ _ c.checked_for_run-sized.ensures c.if-sized-ne0.false c.too_long-long.ensures c.if-long-ne0.false
+driven-requires c = bounds _ c.args.k c.in_ok-planned_for_run.ensures.says c.in_ok-check_length.ensures
 
 pub returns : goal.returns
-returns c =
-    ran _ _ c.checked_for_run-sized.ensures c.if-sized-ne0.false c.too_long-long.ensures c.if-long-ne0.false c.driven.ensures
+returns c = ran _ _ c.in_ok-planned_for_run.ensures.says c.in_ok-check_length.ensures c.driven.ensures

@@ -1,10 +1,6 @@
 -- `losses::tallied` meets its contract: the list is too long, or an entry names no queue, or each entry's tokens are summed for its queue.
-use Rattle.std.proofs.Common.{◌-◌}
 use Rattle.losses.proofs.Pass.{Passed}
 use Rattle.losses.proofs.tallied.Given as goal
 
-abbrev pub invariant-loop-k : goal.invariant-loop-k
-invariant-loop-k l = Passed l.n l.losses l.k l.lost
-
-abbrev pub decreases-loop-k : goal.decreases-loop-k
-decreases-loop-k l = l.count - l.k
+abbrev pub invariant-loop-loss : goal.invariant-loop-loss
+invariant-loop-loss l = Passed l.n l.losses l.loss-index l.lost

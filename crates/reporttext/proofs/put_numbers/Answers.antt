@@ -3,14 +3,13 @@ use Rattle.std.proofs.Common.{arith}
 use Rattle.reporttext.proofs.Lines.{numbers_none, numbers_more}
 use Rattle.reporttext.proofs.put_numbers.Goals as goal
 
-pub loop-j-init : goal.loop-j-init
-loop-j-init c = record { within = omega arith; written = numbers_none; short = omega arith }
+pub loop-n-init : goal.loop-n-init
+loop-n-init c = record { written = numbers_none _; short = omega arith }
 
-pub loop-j-preserved : goal.loop-j-preserved
-loop-j-preserved c =
-    let l = c.loop-j in
+pub loop-n-preserved : goal.loop-n-preserved
+loop-n-preserved c =
+    let l = c.loop-n in
     record {
-      within = omega arith;
-      written = numbers_more _ l.j (omega arith) l.invariant.written c.put_column-k.ensures.0;
+      written = numbers_more _ l.n-index (omega arith) l.invariant.written c.put_column.ensures.0;
       short = omega arith;
     }

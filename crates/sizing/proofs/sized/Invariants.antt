@@ -1,10 +1,6 @@
--- `sizing::sized` meets its contract: before queue i its rates, its load and the slots before it are known.
-use Rattle.std.proofs.Common.{◌-◌}
-use Rattle.sizing.proofs.Walk.{Walked}
+-- Before queue i the walk has come to N_i, and the lines before it are made.
+use Rattle.sizing.proofs.Filling.{Filling}
 use Rattle.sizing.proofs.sized.Given as goal
 
 abbrev pub invariant-loop-i : goal.invariant-loop-i
-invariant-loop-i l = Walked l.chain l.i l.x l.y l.busy l.analysis
-
-abbrev pub decreases-loop-i : goal.decreases-loop-i
-decreases-loop-i l = l.n - l.i
+invariant-loop-i l = Filling l.chain l.i l.walk l.queues

@@ -1,13 +1,12 @@
 -- `state::effect` meets its contract: p goes into the output queue, then c leaves the input queue, and the count has grown.
-use Rattle.std.proofs.Common.{◌≡◌, refl, ◌∙◌, ◌≢◌, ℕ, zero, suc, ◌+◌, ◌-◌, ◌≤◌, ◌<◌, arith, get_or, set, List, Fits, w32, lt-ltb, le-ltb, rules}
+use Rattle.std.proofs.Common.{◌≡◌, refl, ◌∙◌, ◌≢◌, ℕ, zero, suc, ◌+◌, ◌-◌, ◌≤◌, ◌<◌, arith, get_or, set, List, Fits, w32, lt-ltb, le-ltb}
 use Rattle.chain.specs.Record.{row_of}
 use Rattle.chain.specs.declared.Chain.{Chain}
 use Rattle.sizing.specs.Sizes.{capacity_most}
-use Rattle.state.specs.State.{count_at, held_at}
+use Rattle.state.specs.State.{held_at}
 use Rattle.state.specs.Fired.{produced, consumed, fired, produced_other, over_enough}
 use Rattle.state.specs.Fire.{Firing}
 use Rattle.state.specs.declared.Run.{Run}
-use Rattle.state.proofs.Slots.{few, node, node_word, input, input_word, input_row, queue, word, row}
 use Rattle.state.proofs.effect.Goals as goal
 use Rattle.state.proofs.effect.Goals.{Joined-i-chain, then-i-chain, else-i-chain}
 
@@ -18,7 +17,7 @@ half k r i = record { clock = r.clock; counts = set r.counts i (get_or r.counts 
 abbrev withHeld : Run → List ℕ → Run
 withHeld r h = record { clock = r.clock; counts = r.counts; held = h; done = r.done }
 
-mid : (c : Joined-i-chain) → c.if-i-chain.s ≡ half c.args.chain c.args.run c.args.i
+mid : (c : Joined-i-chain) → c.if-i-chain.s ≡ half c.args.chain.now c.args.run c.args.i
 unfolding produced
 mid c = elim c.if-i-chain.branch [ then-i-chain w ↦ w.s-is ∙ simp (lt-ltb _ _ w.if-i-chain.true) | else-i-chain w ↦ w.s-is ∙ simp (le-ltb _ _ w.if-i-chain.false) ]
 
@@ -48,59 +47,11 @@ module _ {c : Chain} {s : Run} {i : ℕ} (k : Firing c s i) where
   found : 0 < i → (row_of c (i - 1)).consume ≤ get_or (produced c i s.held) (i - 1) 0
   found l = let ne : i - 1 ≢ i = λ e. omega arith in rw (produced_other c i s.held (i - 1) ne) (takes i k l)
 
-pub offset_bounds-s-i : goal.offset_bounds-s-i
-offset_bounds-s-i c = node_word c.requires.chain.chain _ c.requires.may.node
-
-pub bounds-s-i : goal.bounds-s-i
-bounds-s-i c = node c.requires.chain.chain _ c.requires.may.node
-
-pub overflow_add-s : goal.overflow_add-s
-overflow_add-s c = let fits : Fits w32 (count_at c.args.run c.args.i) = search rules in record { fits = omega (arith, fits.fits, c.requires.may.countable) }
-
-pub bounds-s-i-2 : goal.bounds-s-i-2
-bounds-s-i-2 c = node c.requires.chain.chain _ c.requires.may.node
-
-pub overflow_cast-chain : goal.overflow_cast-chain
-overflow_cast-chain c = few c.requires.chain.chain
-
-pub offset_bounds-chain-i : goal.offset_bounds-chain-i
-offset_bounds-chain-i c = row c.requires.chain.chain _ c.if-i-chain.true
-
-pub bounds-chain-i : goal.bounds-chain-i
-bounds-chain-i c = queue c.requires.chain.chain _ c.if-i-chain.true
-
-pub offset_bounds-s-i-then-i-chain : goal.offset_bounds-s-i-then-i-chain
-offset_bounds-s-i-then-i-chain c = word c.requires.chain.chain _ c.if-i-chain.true
-
-pub bounds-s-i-then-i-chain : goal.bounds-s-i-then-i-chain
-bounds-s-i-then-i-chain c = queue c.requires.chain.chain _ c.if-i-chain.true
-
 pub overflow_add-s-then-i-chain : goal.overflow_add-s-then-i-chain
 overflow_add-s-then-i-chain c = puts c.requires c.if-i-chain.true
 
-pub bounds-s-i-then-i-chain-2 : goal.bounds-s-i-then-i-chain-2
-bounds-s-i-then-i-chain-2 c = queue c.requires.chain.chain _ c.if-i-chain.true
-
-pub overflow_sub-j : goal.overflow_sub-j
-overflow_sub-j c = c.if-i-gt0.true
-
-pub offset_bounds-chain-j : goal.offset_bounds-chain-j
-offset_bounds-chain-j c = input_row c.requires.chain.chain _ c.requires.may.node
-
-pub bounds-chain-j : goal.bounds-chain-j
-bounds-chain-j c = input c.requires.chain.chain _ c.requires.may.node
-
-pub offset_bounds-s-j : goal.offset_bounds-s-j
-offset_bounds-s-j c = input_word c.requires.chain.chain _ c.requires.may.node
-
-pub bounds-s-j : goal.bounds-s-j
-bounds-s-j c = input c.requires.chain.chain _ c.requires.may.node
-
 pub overflow_sub-s : goal.overflow_sub-s
 overflow_sub-s c = rw (mid (goal.at.overflow_sub-s c).Joined-i-chain) (found c.requires c.if-i-gt0.true)
-
-pub bounds-s-j-then-i-gt0 : goal.bounds-s-j-then-i-gt0
-bounds-s-j-then-i-gt0 c = input c.requires.chain.chain _ c.requires.may.node
 
 pub returns-then-i-gt0 : goal.returns-then-i-gt0
 returns-then-i-gt0 c = rw (mid (goal.at.returns-then-i-gt0 c).Joined-i-chain) (taken _ _ _ c.if-i-gt0.true)

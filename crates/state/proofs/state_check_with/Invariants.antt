@@ -1,18 +1,7 @@
--- `state::state_check_with` meets its contract: before queue i is looked at, none before it is broken.
-use Rattle.std.proofs.Common.{List, ℕ, ◌-◌, ◌≤◌, ◌<◌}
-use Rattle.chain.specs.Refusals.{Silent}
-use Rattle.chain.specs.declared.Chain.{Chain}
-use Rattle.state.specs.Checks.{state_test_with, lent_run}
-use Rattle.state.specs.declared.Run.{Run}
+-- The queues before the one at hand have no reason of 17.
+use Rattle.chain.proofs.Passing.{Passed}
+use Rattle.state.specs.Checks.{state_test_with}
 use Rattle.state.proofs.state_check_with.Given as goal
 
--- the queues before i are not broken
-pub record Passed (c : Chain) (s : Run) (x : List ℕ) (i : ℕ) : Type 0 where
-  pub within : i ≤ c.n
-  pub silent : (j : ℕ) → j < i → Silent (state_test_with c s x j)
-
 abbrev pub invariant-loop-i : goal.invariant-loop-i
-invariant-loop-i l = Passed l.chain (lent_run l.counts l.held l.done) l.lost l.i
-
-abbrev pub decreases-loop-i : goal.decreases-loop-i
-decreases-loop-i l = l.n - l.i
+invariant-loop-i l = Passed (state_test_with l.chain l.run l.lost) l.chain.n l.i

@@ -1,10 +1,6 @@
 -- `steps::chosen` meets its contract: before node j+1 is looked at, the choice among the nodes up to j is at hand, with its deadline.
-use Rattle.std.proofs.Common.{◌-◌}
 use Rattle.steps.specs.Scans.{Chosen}
 use Rattle.steps.proofs.chosen.Given as goal
 
 abbrev pub invariant-loop-j : goal.invariant-loop-j
 invariant-loop-j l = Chosen l.flow l.due l.j l.node l.earliest
-
-abbrev pub decreases-loop-j : goal.decreases-loop-j
-decreases-loop-j l = l.n - l.j

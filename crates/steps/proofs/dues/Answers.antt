@@ -1,13 +1,7 @@
 -- `steps::dues`: the goals that the check leaves, with the invariant of `Invariants.antt`.
-use Rattle.steps.specs.Dued.{dued_none, dued_taken, dued_left, dued_end, dued_size, dued_dated}
+use Rattle.steps.specs.Dued.{dued_taken, dued_left, dued_size}
 use Rattle.steps.proofs.dues.Goals as goal
 use Rattle.steps.proofs.dues.Goals.{then-every-j, else-every-j}
-
-pub loop-j-init : goal.loop-j-init
-loop-j-init c = dued_none _ _ _
-
-pub dated-requires : goal.dated-requires
-dated-requires c = dued_dated c.requires c.loop-j-test.true
 
 pub loop-j-preserved : goal.loop-j-preserved
 loop-j-preserved c =
@@ -17,6 +11,3 @@ loop-j-preserved c =
       | then-every-j w ↦ rw w.due-is (dued_taken inv test (dued_size c.requires) w.dated.ensures)
       | else-every-j w ↦ rw w.due-is (dued_left inv test w.if-every-j.false)
     ]
-
-pub returns : goal.returns
-returns c = dued_end c.loop-j.invariant c.loop-j-test.false

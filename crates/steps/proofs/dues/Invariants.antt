@@ -1,10 +1,6 @@
 -- `steps::dues` meets its contract: before node j+1 is looked at, the deadlines that are wanted of the nodes up to j are there.
-use Rattle.std.proofs.Common.{◌-◌}
 use Rattle.steps.specs.Dued.{Dued}
 use Rattle.steps.proofs.dues.Given as goal
 
 abbrev pub invariant-loop-j : goal.invariant-loop-j
 invariant-loop-j l = Dued l.plan l.flow l.every l.j l.due
-
-abbrev pub decreases-loop-j : goal.decreases-loop-j
-decreases-loop-j l = l.n - l.j

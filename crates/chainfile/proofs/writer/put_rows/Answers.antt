@@ -1,18 +1,11 @@
--- `chainfile::writer::put_rows` meets its contract: before row i is written, the first i rows are, and there is room for one more.
-use Rattle.std.proofs.Common.{arith}
-use Rattle.words.specs.Put.{puts_length}
-use Rattle.words.proofs.WordsLaws.{bytes_length}
-use Rattle.chainfile.specs.Packed.{rows, rows_length}
-use Rattle.chainfile.proofs.Writing.{table_start, table_put}
+-- `chainfile::writer::put_rows` meets its contract: behind the rows before it, one row more is put.
+use Rattle.std.proofs.Common.{◌<◌, arith}
+use Rattle.std.proofs.lemmas.List.{length-take, get_or-take}
+use Rattle.chainfile.proofs.Writing.{table_put}
 use Rattle.chainfile.proofs.writer.put_rows.Goals as goal
 
-pub loop-i-init : goal.loop-i-init
-loop-i-init c = record { within = omega arith; written = table_start _ }
-
-pub put_row-k-requires : goal.put_row-k-requires
-put_row-k-requires c =
-    let l = c.loop-i in
-    record { fits = omega (arith, puts_length l.invariant.written, bytes_length (rows c.args.chain l.i), rows_length c.args.chain l.i) }
-
-pub loop-i-preserved : goal.loop-i-preserved
-loop-i-preserved c = record { within = omega arith; written = table_put _ _ c.loop-i.invariant.written c.put_row-k.ensures }
+pub loop-q-preserved : goal.loop-q-preserved
+loop-q-preserved c =
+    let a = c.args.chain.now in
+    let inside : c.loop-q.q-index < a.n = omega (arith, length-take a.n a.queues) in
+    table_put _ _ c.loop-q.invariant (rw get_or-take at c.row.ensures)

@@ -1,15 +1,8 @@
 -- Before row i is written, the first i rows are.
-use Rattle.std.proofs.Common.{◌≤◌, ◌-◌}
-use Rattle.words.specs.Put.{Puts}
+use Rattle.words.specs.Writer.{Wrote}
 use Rattle.words.specs.Words.{bytes_of}
 use Rattle.chainfile.specs.Packed.{rows}
 use Rattle.chainfile.proofs.writer.put_rows.Given as goal
 
-abbrev pub invariant-loop-i : goal.invariant-loop-i
-invariant-loop-i l = record {
-  within : l.i ≤ l.n;
-  written : Puts l.fn.out l.at (bytes_of (rows l.chain l.i)) l.out l.k;
-}
-
-abbrev pub decreases-loop-i : goal.decreases-loop-i
-decreases-loop-i l = l.n - l.i
+abbrev pub invariant-loop-q : goal.invariant-loop-q
+invariant-loop-q l = Wrote l.fn.out (bytes_of (rows l.chain l.q-index)) l.out

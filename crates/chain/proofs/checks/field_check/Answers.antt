@@ -1,7 +1,0 @@
--- `chain::checks::field_check` meets its contract: what `test` and `outside` ensure.
-use Rattle.std.proofs.Common.{◌∙◌, ap}
-use Rattle.chain.specs.Refusals.{test}
-use Rattle.chain.proofs.checks.field_check.Goals as goal
-
-pub returns : goal.returns
-returns c = c.test.ensures ∙ ap (test 4 _) c.outside.ensures
