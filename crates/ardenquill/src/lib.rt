@@ -138,19 +138,16 @@ pub fn ardenquill_deadline(chain: Chain, node: u32, index: u32) -> DeadlineAnswe
 pub fn ardenquill_tick(chain: &Chain, run: &mut Run) -> OutcomeAnswer
     ensures { (run.new ≡ (tick_answer chain.now run.old).run) × (result ≡ coded (tick_answer chain.now run.old)) }
 {
-    let ticked = tick(*chain, *run);
-    let code = match &ticked {
-        Ok(left) => left.outcome.into(),
+    match &tick(*chain, *run) {
+        Ok(left) => {
+            let code = left.outcome.into();
+            if is_clean(code) {
+                *run = left.run;
+            }
+            code
+        }
         Err(refused) => (*refused).into(),
-    };
-    let next = match &ticked {
-        Ok(left) => &left.run,
-        Err(_) => &*run,
-    };
-    if is_clean(code) {
-        *run = *next;
     }
-    code
 }
 
 // How a deadline run of so many ticks from a fresh start ended and the state that it left, or the first of 2, 4, 5, 6, 7, 8
@@ -170,26 +167,19 @@ pub fn ardenquill_deadline_run(chain: Chain, ticks: u32) -> OutcomeRun
 pub fn ardenquill_recording_tick(chain: &Chain, run: &mut Run, losses: &mut Losses) -> OutcomeAnswer
     ensures { RecLeaves chain.now run.old losses.old run.new losses.new result }
 {
-    let recorded = recording_tick(*chain, *run, *losses);
-    let code = match &recorded {
-        Ok(left) => left.outcome.into(),
+    match &recording_tick(*chain, *run, *losses) {
+        Ok(left) => {
+            let code = left.outcome.into();
+            if rec_moves(code) {
+                *run = left.run;
+            }
+            if rec_grows(losses.count, left.losses.count) {
+                *losses = left.losses;
+            }
+            code
+        }
         Err(refused) => (*refused).into(),
-    };
-    let next = match &recorded {
-        Ok(left) => &left.run,
-        Err(_) => &*run,
-    };
-    if rec_moves(code) {
-        *run = *next;
     }
-    let list = match &recorded {
-        Ok(left) => &left.losses,
-        Err(_) => &*losses,
-    };
-    if rec_grows(losses.count, list.count) {
-        *losses = *list;
-    }
-    code
 }
 
 // How a recording run of so many ticks from a fresh start ended and the state and the list that it left, or the first of 2, 4,

@@ -10,21 +10,15 @@ use Rattle.ardenquill.specs.Ticks.{tick_answer}
 use Rattle.ardenquill.specs.Flat.{coded, is_clean}
 use Rattle.ardenquill.proofs.FlatLaws.{unclean_stays}
 use Rattle.ardenquill.proofs.ardenquill_tick.Goals as goal
-use Rattle.ardenquill.proofs.ardenquill_tick.Goals.{in-Ok, in-Err}
 
 -- a state has all its slots where the state that its tick answers has them
 whole_before : (c : Chain) (s : Run) → Whole (tick_answer c s).run → Whole s
 whole_before c s w = let k = past_kept c s in record { counts = sym k.counts.long ∙ w.counts; held = sym k.held.long ∙ w.held; done = sym k.done.long ∙ w.done }
 
 pub returns-else-is_clean : goal.returns-else-is_clean
-returns-else-is_clean c = elim c.match-ticked.branch [
-  | in-Ok w ↦
-      let is = rw w.in-Ok.is at c.tick-ticked.ensures in
-      let says : c.match-ticked.code ≡ coded (tick_answer _ _) = w.code-is ∙ w.into-code.ensures ∙ ap (λ (a : TickAnswer). coded a) is in
-      let whole : Whole w.in-Ok.left.run = search rules in
-      let unclean = subst (λ (b : Bool). T (not b)) (sym c.if-is_clean.false ∙ c.is_clean.ensures ∙ ap (λ (a : OutcomeAnswer). is_clean a) says) tt in
-      (sym (unclean_stays _ _ (whole_before _ _ (subst (λ (a : TickAnswer). Whole a.run) is whole)) unclean), says)
-  | in-Err w ↦
-      let is = rw w.in-Err.is at c.tick-ticked.ensures in
-      (ap (λ (a : TickAnswer). a.run) is, w.code-is ∙ w.into-code-in-Err.ensures ∙ ap (λ (a : TickAnswer). coded a) is)
-]
+returns-else-is_clean c =
+    let is = rw c.in-Ok.is at c.tick.ensures in
+    let says : c.into-code.result ≡ coded (tick_answer _ _) = c.into-code.ensures ∙ ap (λ (a : TickAnswer). coded a) is in
+    let whole : Whole c.in-Ok.left.run = search rules in
+    let unclean = subst (λ (b : Bool). T (not b)) (sym c.if-is_clean.false ∙ c.is_clean.ensures ∙ ap (λ (a : OutcomeAnswer). is_clean a) says) tt in
+    (sym (unclean_stays _ _ (whole_before _ _ (subst (λ (a : TickAnswer). Whole a.run) is whole)) unclean), says)
