@@ -1,20 +1,24 @@
 -- What the code of a question and of a next firing makes of the way down.
-use Rattle.std.specs.Prelude.{◌≡◌, Result, IfOk, List, ℕ, ◌+◌}
-use Rattle.std.proofs.Common.{Ok, Err, refl, sym, ap, ◌∙◌, arith}
-use Rattle.std.specs.Result.{result_unwrap_or}
-use Rattle.chain.specs.Refusals.{fine, or_else, silent_as}
+use Rattle.std.specs.Prelude.{◌≡◌, Result, List, ℕ, ◌+◌}
+use Rattle.std.proofs.Common.{Ok, Err, refl, sym, ap, ap₂, ◌∙◌, arith}
+use Rattle.std.proofs.Math.Logic.{by_cases}
+use Rattle.std.proofs.Math.Decide.{ℕ_discrete}
+use Rattle.chain.specs.Refusals.{fine, refused, or_else, silent_as}
 use Rattle.chain.specs.Refusal.{Refusal}
-use Rattle.chain.specs.Said.{said, speaks}
+use Rattle.chain.specs.Said.{said}
 use Rattle.chain.specs.declared.Chain.{Chain}
+use Rattle.chain.specs.declared.reasons.Reason.TheVariants.{DeadlineTooLate}
 use Rattle.chain.specs.declared.reasons.Refused.{Refused}
 use Rattle.chain.proofs.Passing.{passing}
 use Rattle.sizing.specs.Plan.{RunPlans}
 use Rattle.state.specs.State.{fresh_run}
 use Rattle.state.specs.Checks.{planned_run}
+use Rattle.state.specs.declared.Run.{Run}
 use Rattle.flow.specs.Flow.{count_in, Shows}
 use Rattle.deadline.specs.Deadline.{deadline, index_check}
+use Rattle.deadline.proofs.DeadlineLaws.{index_only}
 use Rattle.dates.specs.Question.{due_said, answered_due, said_answered, never, dated_of, dated_never, ask_check, deadline_refusal, deadline_answer}
-use Rattle.dates.specs.Dues.{Dues, DueGives, Dated, DatedGives}
+use Rattle.dates.specs.Dues.{Shown, Dues, DueGives, FollowedGives, PassingGives, Dated, DatedGives}
 use Rattle.dates.proofs.QuestionLaws.{ask_silent, deadline_parts}
 
 -- 13 as the last check of a list: nothing stands behind it
@@ -44,13 +48,22 @@ module _ {c : Chain} {i k : ℕ} {l : List ℕ} {u : Unit {0}} (p : RunPlans c l
       let whole : said o ≡ deadline_refusal c i k = grind (arith, passing, deadline_parts, p.says) in
       said_answered (deadline c i k) o (g.due (record { plans = p.plans; shows = s })) ∙ ap (λ (r : Refusal). answered_due r (deadline c i k)) whole
 
--- the next firing's deadline: never where 13 speaks
-dated_said : (c : Chain) (i k : ℕ) (o : Result ℕ Refused) → said o ≡ index_check c i k → IfOk o (λ (t : ℕ). t ≡ deadline c i k) → result_unwrap_or o never ≡ dated_of c i k
-unfolding dated_of
-dated_said c i k (Ok t) s e = rw (← s) e
-dated_said c i k (Err x) s e = sym (dated_never c i k (λ z. speaks x (silent_as (sym s) z)))
+-- the way down in one word, and 13's place, as a result
+module _ {l f : List ℕ} {i k r : ℕ} (g : FollowedGives l f i k r) where
+  pub due_late : r ≡ never → {j : ℕ} → PassingGives l f i k j → DueGives l f i k (Err (record { reason = DeadlineTooLate; place = j }))
+  due_late q p = record { says = λ {c} x. ap₂ refused (sym (index_only c i k (g.late x q))) (p.place x); due = λ x. tt }
 
-pub dated_gives : {l f : List ℕ} {i : ℕ} → Dated l f i → (o : Result ℕ Refused) → DueGives l f i (count_in f i + 1) o → DatedGives l f i (result_unwrap_or o never)
-dated_gives {i = i} d o g = record {
-  due = λ {c} x. dated_said c i _ o (g.says x) (g.due x) ∙ ap (dated_of c i) (omega (arith, x.shows.counts i (omega (arith, d.node, d.shown.shows.few))));
+  pub due_had : (r ≡ never → ⊥) → DueGives l f i k (Ok r)
+  due_had n = record { says = λ x. (g.had x n).0; due = λ x. (g.had x n).1 }
+
+  -- the next firing's deadline: never where 13 speaks
+  dated_is : {c : Chain} {s : Run} → Shown l f c s → r ≡ dated_of c i k
+  unfolding dated_of
+  dated_is {c} x = by_cases (ℕ_discrete r never)
+      (λ q. q ∙ sym (dated_never c i k (g.late x q)))
+      (λ n. let y = g.had x n in rw (← y.0) y.1)
+
+pub dated_gives : {l f : List ℕ} {i : ℕ} → Dated l f i → {r : ℕ} → FollowedGives l f i (count_in f i + 1) r → DatedGives l f i r
+dated_gives {i = i} d g = record {
+  due = λ {c} x. dated_is g x ∙ ap (dated_of c i) (omega (arith, x.shows.counts i (omega (arith, d.node, d.shown.shows.few))));
 }

@@ -1,10 +1,10 @@
--- The way of an index down to the source, as the code takes it: from one node to the next, to an index that passes the limit, or to the source.
+-- The way of an index down to the source, as the code takes it: at the source, at an index that passes the limit, and from one node to the next.
 use Rattle.std.specs.Prelude.{◌≡◌, List, ℕ, zero, suc, ◌+◌, ◌-◌, ◌*◌, ◌/◌, ◌≤◌, ◌<◌}
-use Rattle.std.proofs.Common.{Ok, Err, refl, sym, ap, ◌∙◌, arith, lt-ltb, le-ltb}
-use Rattle.chain.specs.Refusals.{fine, refused, or_else}
+use Rattle.std.proofs.Common.{refl, sym, ap, ◌∙◌, subst, arith, lt-ltb, le-ltb, mul-le-mul}
+use Rattle.chain.specs.Refusals.{fine, refused, or_else, Silent}
 use Rattle.chain.specs.Record.{row_of}
+use Rattle.chain.specs.Refusal.{Refusal}
 use Rattle.chain.specs.declared.Chain.{Chain}
-use Rattle.chain.specs.declared.reasons.Reason.TheVariants.{DeadlineTooLate}
 use Rattle.sizing.specs.Sizes.{capacity_most}
 use Rattle.sizing.specs.Checks.{limit}
 use Rattle.sizing.specs.Plan.{capacity_in, period_in}
@@ -12,7 +12,8 @@ use Rattle.state.specs.declared.Run.{Run}
 use Rattle.flow.specs.Flow.{produce_in, consume_in}
 use Rattle.deadline.specs.Deadline.{earlier, deadline, index_check}
 use Rattle.deadline.proofs.DeadlineLaws.{earlier_some}
-use Rattle.dates.specs.Dues.{Step, Shown, Dues, DueGives}
+use Rattle.dates.specs.Question.{never}
+use Rattle.dates.specs.Dues.{Step, Shown, Dues, FollowedGives, PassingGives}
 
 -- 13 and the deadline a node down, and 13 at an index that passes and at the source
 module _ (c : Chain) where
@@ -39,65 +40,75 @@ module _ (c : Chain) where
   unfolding deadline
   due_source k = refl
 
--- the way down from N_i's index k has come to N_j's index m, a number of 32 bits
-pub record Follows (l f : List ℕ) (i k j m : ℕ) : Type 0 where
-  pub word : m ≤ limit
-  pub dues : Dues l f j m
-  pub says : {c : Chain} {s : Run} → Shown l f c s → index_check c i k ≡ index_check c j m
-  pub due : {c : Chain} {s : Run} → Shown l f c s → deadline c i k ≡ deadline c j m
+module _ {l f : List ℕ} {i k : ℕ} (d : Dues l f i k) (w : k ≤ limit) where
+  module _ (z : i ≡ 0) where
+    source_low : (k - 1) * period_in l < never
+    source_low =
+        let index : k - 1 ≤ 4294967294 = omega arith in
+        let period : period_in l ≤ 1000000 = rw d.shown.plans.period d.sound.period.1 in
+        omega (arith, mul-le-mul index period)
 
-module _ {l f : List ℕ} {i k : ℕ} where
-  pub follows_none : k ≤ limit → Dues l f i k → Follows l f i k i k
-  follows_none h d = record { word = h; dues = d; says = λ x. refl; due = λ x. refl }
+    pub source_gives : {t : ℕ} → t ≡ (k - 1) * period_in l → FollowedGives l f i k t
+    source_gives e = record {
+      had = λ {c} x _. (rw z (check_source c k w), rw (z, due_source c k, ← x.plans.period) e);
+      late = λ x q. absurd (omega (arith, q, e, source_low));
+    }
 
-  module _ {j m : ℕ} (w : Follows l f i k j m) where
-    pub follows_all : j ≤ 0 → {t : ℕ} → t ≡ (m - 1) * period_in l → DueGives l f i k (Ok t)
-    follows_all z e =
-        let here : j ≡ 0 = omega arith in
+    pub source_place : PassingGives l f i k 0
+    source_place = record { place = λ {c} x. rw z (ap (λ (r : Refusal). r.place) (check_source c k w)) }
+
+  module _ (n : 0 < i) where
+    -- every chain that is shown has the queue before the node
+    below : {c : Chain} {s : Run} → Shown l f c s → i - 1 < c.n
+    below x = omega (arith, d.node, d.shown.shows.many, x.shows.many, n)
+
+    pub step_range : Step (produce_in f (i - 1)) (consume_in f (i - 1)) (capacity_in l (i - 1)) k
+    step_range =
+        let h = below d.shown in
+        let row = d.sound.rows (i - 1) h in
         record {
-          says = λ {c} x. rw (w.says x, here) (check_source c m w.word);
-          due = λ {c} x. rw (w.due x, here, due_source c m, ← x.plans.period) e;
+          produce = omega (arith, d.shown.shows.puts (i - 1) h, row.produce.0);
+          consume = omega (arith, d.shown.shows.takes (i - 1) h, row.consume.1);
+          capacity = omega (arith, d.shown.plans.capacities (i - 1) h, capacity_most row);
+          index = (d.index, w);
         }
 
-    module _ (n : 0 < j) where
-      -- every chain that is shown has the queue before the node
-      below : {c : Chain} {s : Run} → Shown l f c s → j - 1 < c.n
-      below x = omega (arith, w.dues.node, w.dues.shown.shows.many, x.shows.many, n)
+    module _ {m : ℕ} (e : m ≡ ((k - 1) * consume_in f (i - 1) + capacity_in l (i - 1)) / produce_in f (i - 1) + 1) where
+      -- the index as the code computes it is the one before
+      index_is : {c : Chain} {s : Run} → Shown l f c s → earlier (row_of c (i - 1)) k ≡ m
+      unfolding earlier
+      index_is x = let h = below x in rw (e, x.shows.takes _ h, x.plans.capacities _ h, x.shows.puts _ h)
 
-      pub step_range : Step (produce_in f (j - 1)) (consume_in f (j - 1)) (capacity_in l (j - 1)) m
-      step_range =
-          let h = below w.dues.shown in
-          let row = w.dues.sound.rows (j - 1) h in
-          record {
-            produce = omega (arith, w.dues.shown.shows.puts (j - 1) h, row.produce.0);
-            consume = omega (arith, w.dues.shown.shows.takes (j - 1) h, row.consume.1);
-            capacity = omega (arith, w.dues.shown.plans.capacities (j - 1) h, capacity_most row);
-            index = (w.dues.index, w.word);
-          }
+      check_down : {c : Chain} {s : Run} → Shown l f c s → index_check c (i - 1) m ≡ index_check c i k
+      check_down {c} x = sym (check_next c i k n w ∙ ap (index_check c (i - 1)) (index_is x))
 
-      module _ {b : ℕ} (e : b ≡ ((m - 1) * consume_in f (j - 1) + capacity_in l (j - 1)) / produce_in f (j - 1) + 1) where
-        -- the index as the code computes it is the one before
-        index_is : {c : Chain} {s : Run} → Shown l f c s → earlier (row_of c (j - 1)) m ≡ b
-        unfolding earlier
-        index_is x = let h = below x in rw (e, x.shows.takes _ h, x.plans.capacities _ h, x.shows.puts _ h)
+      due_down : {c : Chain} {s : Run} → Shown l f c s → deadline c (i - 1) m ≡ deadline c i k
+      due_down {c} x = sym (due_next c i k n ∙ ap (deadline c (i - 1)) (index_is x))
 
-        check_down : {c : Chain} {s : Run} → Shown l f c s → index_check c i k ≡ index_check c (j - 1) b
-        check_down {c} x = w.says x ∙ check_next c j m n w.word ∙ ap (index_check c (j - 1)) (index_is x)
+      pub passing_gives : limit < m → FollowedGives l f i k never
+      passing_gives p = record {
+        had = λ x q. absurd (q refl);
+        late = λ {c} x q. subst (λ (r : Refusal). Silent r → ⊥) (check_passing c (i - 1) m p ∙ check_down x) (λ h. omega (arith, h));
+      }
 
-        pub follows_passing : limit < b → DueGives l f i k (Err (record { reason = DeadlineTooLate; place = j - 1 }))
-        follows_passing p = record { says = λ {c} x. check_passing c (j - 1) b p ∙ sym (check_down x); due = λ x. tt }
+      pub passing_place : limit < m → PassingGives l f i k (i - 1)
+      passing_place p = record { place = λ {c} x. ap (λ (r : Refusal). r.place) (check_passing c (i - 1) m p ∙ check_down x) }
 
-        pub follows_more : b ≤ limit → Follows l f i k (j - 1) b
-        follows_more h = record {
-          word = h;
-          dues = record {
-            chain = w.dues.chain;
-            run = w.dues.run;
-            shown = w.dues.shown;
-            sound = w.dues.sound;
-            node = omega (arith, w.dues.node);
-            index = rw (← index_is w.dues.shown) (earlier_some (row_of w.dues.chain (j - 1)) m);
-          };
-          says = check_down;
-          due = λ {c} x. w.due x ∙ due_next c j m n ∙ ap (deadline c (j - 1)) (index_is x);
-        }
+      pub next_dues : Dues l f (i - 1) m
+      next_dues = record {
+        chain = d.chain;
+        run = d.run;
+        shown = d.shown;
+        sound = d.sound;
+        node = omega (arith, d.node);
+        index = rw (← index_is d.shown) (earlier_some (row_of d.chain (i - 1)) k);
+      }
+
+      pub next_gives : {r : ℕ} → FollowedGives l f (i - 1) m r → FollowedGives l f i k r
+      next_gives g = record {
+        had = λ x q. let y = g.had x q in (y.0 ∙ check_down x, y.1 ∙ due_down x);
+        late = λ x q. subst (λ (r : Refusal). Silent r → ⊥) (check_down x) (g.late x q);
+      }
+
+      pub next_place : {r : ℕ} → PassingGives l f (i - 1) m r → PassingGives l f i k r
+      next_place g = record { place = λ x. g.place x ∙ ap (λ (r : Refusal). r.place) (check_down x) }

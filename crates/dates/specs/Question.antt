@@ -3,6 +3,7 @@
 --   refused_with N L           the answer of a question that is refused with number N and place L
 --   answered_refused, _fine    its two cases
 --   due_said o                 the answer that a result makes which is a deadline or an error
+--   due_alike                  no two results make the same
 --   said_answered              which is the question's, of what the result says; answered_error: where it is an error
 --   never, never_word          what stands for a deadline that cannot be had: the largest number of 64 bits
 --   dated_of c i k             the deadline of N_i's k-th firing, or never
@@ -14,15 +15,15 @@
 --   dated_had, dated_never     what dated_of is where 13 is silent, and where it speaks
 --   dated_exact                it is never exactly when 13 speaks
 use Rattle.std.specs.Prelude.{◌≡◌, refl, ◌↔◌, cond, Result, IfOk, ◌||◌, List, [], ◌∷◌, ◌++◌, ℕ, zero, suc, ◌+◌, ◌-◌, ◌*◌, ◌^◌, ◌≤◌, ◌<◌, ltb, eqb}
-use Rattle.std.proofs.Common.{Ok, Err, sym, mul-le-mul, eq-eqb, ne_eqb}
+use Rattle.std.proofs.Common.{Ok, Err, sym, ap, mul-le-mul, eq-eqb, ne_eqb}
 use native.Mathlib.Omega.{arith}
 use Rattle.chain.specs.Tests.{below_false}
-use Rattle.chain.specs.Refusals.{fine, test, first, Silent, or_silents}
+use Rattle.chain.specs.Refusals.{refused, fine, test, first, Silent, or_silents}
 use Rattle.chain.specs.Refusals.{test_silent}
 use Rattle.chain.specs.Record.{row_of}
 use Rattle.chain.specs.Sound.{Sound}
 use Rattle.chain.specs.Refusal.{Refusal}
-use Rattle.chain.specs.Said.{code, refusal, said, speaks}
+use Rattle.chain.specs.Said.{code, refusal, said, refusal_alike, speaks}
 use Rattle.chain.specs.declared.reasons.Refused.{Refused}
 use Rattle.chain.specs.declared.Chain.{Chain}
 use Rattle.sizing.specs.Checks.{limit, run_checks, run_refusal, run_numbers}
@@ -41,6 +42,13 @@ refused_with N L = record { number = N; place = L; due = 0 }
 abbrev pub due_said : Result ℕ Refused → DeadlineAnswer
 due_said (Ok d) = record { number = 0; place = 0; due = d }
 due_said (Err e) = refused_with (code e.reason) e.place
+
+-- equal answers come from equal results
+pub due_alike : (r s : Result ℕ Refused) → due_said r ≡ due_said s → r ≡ s
+due_alike (Ok j) (Ok k) e = ap Ok (ap (λ (x : DeadlineAnswer). x.due) e)
+due_alike (Ok k) (Err f) e = absurd (speaks f (ap (λ (x : DeadlineAnswer). x.number) (sym e)))
+due_alike (Err d) (Ok k) e = absurd (speaks d (ap (λ (x : DeadlineAnswer). x.number) e))
+due_alike (Err d) (Err f) e = ap Err (refusal_alike d f (ap (λ (x : DeadlineAnswer). refused x.number x.place) e))
 
 -- a refusal gives no deadline, and an answer that is not refused has number and place 0
 pub answered_refused : (r : Refusal) (d : ℕ) → (Silent r → ⊥) → refused_with r.number r.place ≡ answered_due r d

@@ -1,9 +1,10 @@
-// Deadline questions: when a firing of a node is due. The index is followed down to the source, a queue at a time.
+// Deadline questions: when a firing of a node is due. The index is followed down to the source, a queue at a time, by
+// functions that call themselves for the node before.
 #![tactic(auto)]
 
 ghost use Rattle.std.specs.Prelude.{◌≡◌, ◌+◌, ◌-◌, ◌*◌, ◌/◌, ◌≤◌};
 ghost use Rattle.dates.specs.Question.{due_said, deadline_answer};
-ghost use Rattle.dates.specs.Dues.{Step, Dues, DueGives, Dated, DatedGives};
+ghost use Rattle.dates.specs.Dues.{Step, Dues, DueGives, FollowedGives, PassingGives, Dated, DatedGives};
 
 use chain::{Chain, Reason, Refused};
 use flow::{CONSUME, COUNTS, LENGTH, PRODUCE};
@@ -61,7 +62,7 @@ pub fn dated(plan: &[u32; PLAN], flow: &[u32; LENGTH], i: usize) -> u64
     requires { Dated plan.now flow.now i }
     ensures { DatedGives plan.now flow.now i result }
 {
-    due(plan, flow, i, flow[COUNTS + i] + 1).unwrap_or(NEVER)
+    followed(plan, flow, i, flow[COUNTS + i] + 1)
 }
 
 // The deadline of node i's k-th firing, or 13 of the first node on the way down to the source whose index passes the limit.
@@ -69,23 +70,47 @@ pub fn due(plan: &[u32; PLAN], flow: &[u32; LENGTH], i: usize, k: u32) -> Result
     requires { Dues plan.now flow.now i k }
     ensures { DueGives plan.now flow.now i k result }
 {
-    let mut index = k;
-    for j in (0..i).rev() {
-        let before = index_before(
-            flow[PRODUCE + j],
-            flow[CONSUME + j],
-            plan[CAPACITY + j],
-            index,
-        );
-        if LIMIT < before {
-            return Err(Refused {
-                reason: Reason::DeadlineTooLate,
-                place: j as u32,
-            });
-        }
-        index = before as u32;
+    let ticks = followed(plan, flow, i, k);
+    if ticks == NEVER {
+        return Err(Refused {
+            reason: Reason::DeadlineTooLate,
+            place: passing(plan, flow, i, k),
+        });
     }
-    Ok(at_source(plan[PERIOD], index))
+    Ok(ticks)
+}
+
+// The deadline of node i's k-th firing, or NEVER where an index on the way down to the source passes the limit. One word comes
+// back, since every call on the way hands it on.
+fn followed(plan: &[u32; PLAN], flow: &[u32; LENGTH], i: usize, k: u32) -> u64
+    requires { Dues plan.now flow.now i k }
+    ensures { FollowedGives plan.now flow.now i k result }
+{
+    if i == 0 {
+        return at_source(plan[PERIOD], k);
+    }
+    let j = i - 1;
+    let before = index_before(flow[PRODUCE + j], flow[CONSUME + j], plan[CAPACITY + j], k);
+    if LIMIT < before {
+        return NEVER;
+    }
+    followed(plan, flow, j, before as u32)
+}
+
+// The first node on the way down from node i's index k whose index passes the limit, or 0 where none does.
+fn passing(plan: &[u32; PLAN], flow: &[u32; LENGTH], i: usize, k: u32) -> u32
+    requires { Dues plan.now flow.now i k }
+    ensures { PassingGives plan.now flow.now i k result }
+{
+    if i == 0 {
+        return 0;
+    }
+    let j = i - 1;
+    let before = index_before(flow[PRODUCE + j], flow[CONSUME + j], plan[CAPACITY + j], k);
+    if before <= LIMIT {
+        return passing(plan, flow, j, before as u32);
+    }
+    j as u32
 }
 
 // The index at the node before a queue of these numbers, for index k at the node that it feeds.

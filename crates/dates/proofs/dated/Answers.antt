@@ -3,4 +3,4 @@ use Rattle.dates.proofs.Answers.{dated_gives}
 use Rattle.dates.proofs.dated.Goals as goal
 
 pub returns : goal.returns
-returns c = rw c.unwrap_or.ensures (dated_gives c.requires _ c.due.ensures)
+returns c = dated_gives c.requires c.followed.ensures
