@@ -1,7 +1,7 @@
 -- Laws of specs/Checks.antt that rest on a definition which an edit of must-fail/ changes.
 -- The checks of a run state, 17, and of a manual firing, 9, 11 and 12 (01, Numbers a call may refuse with).
 --   state_sums                 which looks at x through the sums alone
---   none_lost                  and is the plain check where nothing was lost
+--   unlost, none_lost          and is the plain check where nothing was lost: of a queue, and of a state
 --   over c s i, over_true      whether N_i may fire
 --   queue_silent, -says, queues_exact, _silent, _only
 --                              their laws
@@ -15,7 +15,7 @@
 --   lent_run, state_lent, state_lent_with
 --                              the state whose numbers are lent, which 17 is said of
 use Rattle.std.proofs.Math.Logic.Iff
-use Rattle.std.specs.Prelude.{◌≡◌, refl, Bool, true, false, ◌↔◌, ◌≢◌, ◌⊎◌, List, ℕ, zero, suc, ◌+◌, ◌≤◌, ◌<◌, eqb, get_or, replicate}
+use Rattle.std.specs.Prelude.{◌≡◌, refl, Bool, true, false, ◌↔◌, ◌≢◌, ◌⊎◌, List, ℕ, zero, suc, ◌+◌, ◌*◌, ◌≤◌, ◌<◌, eqb, get_or, replicate}
 use Rattle.std.proofs.Common.{ap, inl, inr, add-zero, arith, ne_eqb}
 use Rattle.std.proofs.Math.Logic.{⊎_elim, by_cases}
 use Rattle.std.proofs.Math.Decide.{dec_lt}
@@ -25,12 +25,13 @@ use Rattle.chain.specs.Tests.{below_true, below_false, upto_true, upto_false, eq
 use Rattle.chain.specs.Refusals.{refused, test, first, Silent, Lowest, lowest_is, Only, only_test, only_tab, test_exact, test_silent, all_silent}
 use Rattle.chain.specs.Record.{row_of, work_of}
 use Rattle.chain.specs.declared.Chain.{Chain}
+use Rattle.words.specs.declared.Queue.{Queue}
 use Rattle.sizing.specs.Sizes.{capacity_of}
 use Rattle.sizing.specs.Checks.{limit}
 use Rattle.state.specs.State.{zeros, count_at, held_at, done_at}
 use Rattle.state.specs.Fired.{Over, Room, supplied, accounted}
 use Rattle.state.specs.declared.Run.{Run}
-use Rattle.state.specs.Checks.{broken_unless, broken, state_check, spent, count_check, over, idle, over_check, cramped, Cramped}
+use Rattle.state.specs.Checks.{broken_unless, broken, broken_with, state_check, spent, count_check, over, idle, over_check, cramped, Cramped}
 use Rattle.state.specs.Checks.{room_check, queue_test, BrokenAt, SteadyAt, FirstBrokenAt, state_test_with, state_check_with, FirstBroken, StateSound, lent_run}
 
 -- 17 of every queue of a state, over the two sides of each queue's balance
@@ -64,6 +65,11 @@ pub state_sums : (c : Chain) (s : Run) (x : List ℕ) (right : ℕ → ℕ) → 
 unfolding state_check_with
 state_sums c s x right e = ap first (tab_alike c.n (state_test_with c s x) (queue_test c s (supplied c s) right) (λ i h. ap
     (λ (y : ℕ). test 17 i (broken_unless (eqb (supplied c s i) y) (row_of c i) (work_of c i) (held_at s i) (done_at s i))) (e i h)))
+
+-- a queue that lost nothing has one of 17's reasons as the plain check has it
+pub unlost : (q : Queue) (e a b x d : ℕ) → broken_with q e a b x 0 d ≡ broken q e a b x d
+unfolding broken broken_with
+unlost q e a b x d = rw (add-zero (x + q.consume * b))
 
 -- where nothing was lost it is the plain check
 pub none_lost : (c : Chain) (s : Run) → state_check_with c s (replicate 16 0) ≡ state_check c s

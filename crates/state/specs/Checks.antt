@@ -5,7 +5,7 @@
 --                              producer and its consumer, x what it holds, d its consumer's work done
 --   state_test c s i, state_check c s
 --                              17 of queue i, and of the state: the lowest such queue
---   broken_with q e a b x l d, broken_at c s x i, state_test_with c s x i, state_check_with c s x
+--   broken_with q e a b x l d, broken_at c s l i, state_test_with c s x i, state_check_with c s x
 --                              the same where the balance counts l tokens of the queue as lost, and those that x has of each queue
 --   spent c s i, count_check c s i
 --                              9 of a manual firing of N_i: its count cannot grow
@@ -66,9 +66,9 @@ unfoldable pub broken_with : Queue → ℕ → ℕ → ℕ → ℕ → ℕ → �
 unfolding capacity least
 broken_with q e a b x l d = broken_unless (eqb (start q + q.produce * a) (x + q.consume * b + l)) q e x d
 
--- the same of queue i of a state, x having the tokens that each queue lost
-abbrev pub broken_at : Chain → Run → List ℕ → ℕ → Bool
-broken_at c s x i = broken_with (row_of c i) (work_of c i) (count_at s i) (count_at s (suc i)) (held_at s i) (get_or x i 0) (done_at s i)
+-- the same of queue i of a state
+abbrev pub broken_at : Chain → Run → ℕ → ℕ → Bool
+broken_at c s l i = broken_with (row_of c i) (work_of c i) (count_at s i) (count_at s (suc i)) (held_at s i) l (done_at s i)
 
 -- 17: the "lowest queue"
 unfoldable pub state_check : Chain → Run → Refusal

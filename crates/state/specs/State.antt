@@ -10,17 +10,18 @@
 --   refused_with N L s       the answer of a call that is refused with number N and place L
 --   answered_refused, _fine  its two cases
 --   run_said s o             the answer that a result makes which is a state or an error
+--   run_alike                no two results make the same
 --   said_answered            which is the call's, of what the result says; answered_error, _ok: its two cases
 --   same_run                 states of equal parts are equal
 use Rattle.std.specs.Prelude.{◌≡◌, refl, cond, Result, IfOk, List, ℕ, zero, suc, ◌<◌, eqb, get_or, replicate}
 use Rattle.std.proofs.Common.{Ok, Err, sym, ap, arith, ne_eqb}
 use Rattle.std.proofs.lemmas.List.{length-replicate, get_or-replicate}
 use Rattle.words.specs.Table.{tab, slots, is_slots, slot_used}
-use Rattle.chain.specs.Refusals.{fine, Silent}
+use Rattle.chain.specs.Refusals.{refused, fine, Silent}
 use Rattle.chain.specs.Record.{row_of}
 use Rattle.chain.specs.Sound.{Sound}
 use Rattle.chain.specs.Refusal.{Refusal}
-use Rattle.chain.specs.Said.{code, refusal, said, speaks}
+use Rattle.chain.specs.Said.{code, refusal, said, refusal_alike, speaks}
 use Rattle.chain.specs.declared.Chain.{Chain}
 use Rattle.chain.specs.declared.reasons.Refused.{Refused}
 use Rattle.sizing.specs.Sizes.{start}
@@ -80,6 +81,13 @@ refused_with N L s = record { number = N; place = L; run = s }
 abbrev pub run_said : Run → Result Run Refused → RunAnswer
 run_said s (Ok t) = record { number = 0; place = 0; run = t }
 run_said s (Err e) = refused_with (code e.reason) e.place s
+
+-- equal answers come from equal results
+pub run_alike : (s : Run) (r t : Result Run Refused) → run_said s r ≡ run_said s t → r ≡ t
+run_alike s (Ok x) (Ok y) e = ap Ok (ap (λ (a : RunAnswer). a.run) e)
+run_alike s (Ok x) (Err f) e = absurd (speaks f (ap (λ (a : RunAnswer). a.number) (sym e)))
+run_alike s (Err d) (Ok y) e = absurd (speaks d (ap (λ (a : RunAnswer). a.number) e))
+run_alike s (Err d) (Err f) e = ap Err (refusal_alike d f (ap (λ (a : RunAnswer). refused a.number a.place) e))
 
 pub answered_refused : (r : Refusal) (s t : Run) → (Silent r → ⊥) → refused_with r.number r.place s ≡ answered r s t
 unfolding answered

@@ -1,13 +1,13 @@
 // The run state: a fresh start, what one firing does to it, and manual firing.
 #![tactic(auto)]
 
-ghost use Rattle.std.specs.Prelude.{◌≡◌, ◌<◌, ltb, ◌+◌};
+ghost use Rattle.std.specs.Prelude.{◌≡◌, ◌≤◌, ◌<◌, ltb, ◌+◌};
 ghost use Rattle.chain.specs.Refusals.{first};
 ghost use Rattle.chain.specs.Said.{said};
 ghost use Rattle.chain.specs.Sound.{Sound};
 ghost use Rattle.state.specs.State.{empty_run, run_said};
 ghost use Rattle.state.specs.Fired.{fired};
-ghost use Rattle.state.specs.Checks.{broken_at, spent, idle, cramped, state_check, state_check_with, Planned, Accountable};
+ghost use Rattle.state.specs.Checks.{broken_at, spent, idle, cramped, state_check, state_check_with, most_lost, Planned, Accountable};
 ghost use Rattle.state.specs.Fire.{fresh_answer, node_checks, fire_answer, Firing};
 
 use chain::{Chain, Reason, Refused};
@@ -40,9 +40,6 @@ pub const EMPTY: Run = Run {
     held: [0; 16],
     done: [0; 16],
 };
-
-// No queue has lost a token.
-const NOTHING_LOST: [u64; 16] = [0; 16];
 
 // A fresh start of a chain, or the first of 2, 4, 5, 6 and 7 that refuses it.
 #[tactic(auto, using(crate::proofs::FireLaws::fresh_parts))]
@@ -105,12 +102,16 @@ impl RunAnswer {
 }
 
 // 17: the lowest queue of which the state breaks the balance, passes the capacity, or has all the work of a firing done.
-#[tactic(auto, using(crate::proofs::ChecksLaws::none_lost))]
+#[tactic(auto, using(chain::proofs::Passing::passing, crate::proofs::ChecksLaws::unlost), unfolding(crate::specs::Checks::state_check))]
 pub fn state_check(chain: &Chain, plan: &[u32; PLAN], run: &Run) -> Result<(), Refused>
     requires { Planned chain.now plan.now }
     ensures { said result ≡ state_check chain.now run.now }
 {
-    state_check_with(chain, plan, run, &NOTHING_LOST)
+    for i in 0..chain.n as usize {
+        let broken = is_broken(chain, plan, run, 0, i);
+        chain::test(Reason::BrokenState, i as u32, broken)?;
+    }
+    Ok(())
 }
 
 // 17 where the balance counts the tokens that each queue lost.
@@ -125,23 +126,25 @@ pub fn state_check_with(
     ensures { said result ≡ state_check_with chain.now run.now lost.now }
 {
     for i in 0..chain.n as usize {
-        let broken = is_broken(chain, plan, run, lost, i);
+        let broken = is_broken(chain, plan, run, lost[i], i);
         chain::test(Reason::BrokenState, i as u32, broken)?;
     }
     Ok(())
 }
 
-// Whether one of 17's reasons holds of queue i, which lost so many tokens.
-fn is_broken(chain: &Chain, plan: &[u32; PLAN], run: &Run, lost: &[u64; 16], i: usize) -> bool
+// Whether one of 17's reasons holds of queue i, which lost so many tokens. Inlined, so that where none are lost none are added.
+#[inline(always)]
+fn is_broken(chain: &Chain, plan: &[u32; PLAN], run: &Run, lost: u64, i: usize) -> bool
     requires queue { i < chain.now.n }
-    requires accountable { Accountable chain.now plan.now lost.now }
-    ensures { result ≡ broken_at chain.now run.now lost.now i }
+    requires planned { Planned chain.now plan.now }
+    requires few { lost ≤ most_lost }
+    ensures { result ≡ broken_at chain.now run.now lost i }
 {
     let q = chain.queues[i];
     let held = run.held[i];
     let supplied = u64::from(q.produce) * u64::from(run.counts[i]);
     let taken = u64::from(q.consume) * u64::from(run.counts[i + 1]);
-    let accounted = u64::from(held) + taken + lost[i];
+    let accounted = u64::from(held) + taken + lost;
     (supplied != accounted) | (plan[CAPACITY + i] < held) | (chain.work[i] <= run.done[i])
 }
 
