@@ -7,6 +7,7 @@
 --   refusal_alike        so an error is known by its refusal
 --   speaks, said_silent  no error is silent, and a result says nothing exactly where it is Ok
 --   chain_said r         the answer that a result makes which is a chain or an error
+--   chain_alike          no two results have the same
 --   chain_given, chain_refused
 --                        it is `answered` of what the result says: the chain made, or no chain, whichever was made
 use Rattle.std.specs.Prelude.{◌≡◌, ◌↔◌, List, [], ◌∷◌, ℕ, ◌≤◌, get_or, Result, IsOk}
@@ -114,6 +115,13 @@ said_silent (Err e) = (λ z. absurd (speaks e z), λ k. absurd (true≢false (sy
 abbrev pub chain_said : Result Chain Refused → ChainAnswer
 chain_said (Ok c) = record { number = 0; place = 0; chain = c }
 chain_said (Err e) = record { number = code e.reason; place = e.place; chain = empty_chain }
+
+-- equal answers come from equal results
+pub chain_alike : (r s : Result Chain Refused) → chain_said r ≡ chain_said s → r ≡ s
+chain_alike (Ok c) (Ok d) e = ap Ok (ap (λ (x : ChainAnswer). x.chain) e)
+chain_alike (Ok c) (Err f) e = absurd (speaks f (ap (λ (x : ChainAnswer). x.number) (sym e)))
+chain_alike (Err d) (Ok c) e = absurd (speaks d (ap (λ (x : ChainAnswer). x.number) e))
+chain_alike (Err d) (Err f) e = ap Err (refusal_alike d f (ap (λ (x : ChainAnswer). refused x.number x.place) e))
 
 -- it is what `answered` makes of the refusal and the chain
 pub chain_given : (c : Chain) → chain_said (Ok c) ≡ answered fine c

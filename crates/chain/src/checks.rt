@@ -16,14 +16,14 @@ use words::Queue;
 // 2, 4 and 5 of a chain that was handed in as a record, with places as in its packed file. Rows that are all fine have no
 // fault, so a sound chain pays for no check of theirs.
 #[tactic(auto, using(crate::proofs::Passing::passing, crate::proofs::FaultsLaws::fine_rows), unfolding(crate::specs::Checks::chain_refusal))]
-pub fn check_chain(chain: Chain) -> Result<(), Refused>
-    ensures { said result ≡ chain_refusal chain }
+pub fn check_chain(chain: &Chain) -> Result<(), Refused>
+    ensures { said result ≡ chain_refusal chain.now }
 {
     count_check(chain.n)?;
-    if are_fine(&chain) {
+    if are_fine(chain) {
         return check_period(chain.period);
     }
-    check_rows(&chain, 20, 20 + 20 * chain.n)
+    check_rows(chain, 20, 20 + 20 * chain.n)
 }
 
 // 2: how many queues there are.

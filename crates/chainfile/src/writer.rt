@@ -14,7 +14,7 @@ use words::Writer;
 pub fn write(chain: Chain, out: &mut [u8]) -> Result<usize, Refused>
     ensures { Output (write_refusal chain (length out.old)) (packed chain) out.old out.new (length_said result) }
 {
-    chain::check_chain(chain)?;
+    chain::check_chain(&chain)?;
     let need = 20 + 24 * chain.n;
     chain::test(Reason::NoRoom, need, out.len() < need as usize)?;
     Ok(put_chain(&chain, out))

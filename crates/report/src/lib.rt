@@ -18,7 +18,7 @@ pub fn report(file: &[u8], out: &mut [u8]) -> Result<usize, Refused>
     ensures { Output (report_refusal file.now (length out.old)) (report_text file.now) out.old out.new (length_said result) }
 {
     let chain = chainfile::read(file)?;
-    let analysis = sizing::sized(chain)?;
+    let analysis = sizing::sized(&chain)?;
     write_text(&analysis, out)
 }
 

@@ -108,23 +108,28 @@ impl From<Result<Analysis, Refused>> for AnalysisAnswer {
     }
 }
 
-// The analysis of a chain, or the first of 2, 4, 5, 6 and 7 that refuses it.
+// The analysis of a chain, or the first of 2, 4, 5, 6 and 7 that refuses it. Inlined, so that an analysis is not handed on once more.
+#[inline(always)]
 #[tactic(auto, using(crate::proofs::Answers::answering))]
 pub fn analyse(chain: Chain) -> Result<Analysis, Refused>
     ensures { analysis_said result ≡ analyse_answer chain }
 {
-    chain::check_chain(chain)?;
-    sized(chain)
+    chain::check_chain(&chain)?;
+    sized(&chain)
 }
 
-// The analysis of a chain that is to be run, or the first of 2, 4, 5, 6, 7 and 8 that refuses it.
+// The analysis of a chain that is to be run, or the first of 2, 4, 5, 6, 7 and 8 that refuses it. 8 looks at the analysis where it
+// lies, and `analyse` is not called: taking it out or calling that would copy it once more.
 #[tactic(auto, using(crate::proofs::Answers::answering))]
 pub fn checked_for_run(chain: Chain) -> Result<Analysis, Refused>
     ensures { analysis_said result ≡ run_answer chain }
 {
-    let analysis = analyse(chain)?;
-    check_capacities(&analysis)?;
-    Ok(analysis)
+    chain::check_chain(&chain)?;
+    let outcome = sized(&chain);
+    if let Ok(analysis) = &outcome {
+        check_capacities(analysis)?;
+    }
+    outcome
 }
 
 // The plan of a chain, drawn into the lent words, or the first of 2, 4, 5, 6 and 7 that refuses it.
@@ -133,7 +138,7 @@ pub fn planned(chain: Chain, plan: &mut [u32; PLAN]) -> Result<(), Refused>
     requires { Blank plan.old }
     ensures { SizedPlans chain plan.new result }
 {
-    chain::check_chain(chain)?;
+    chain::check_chain(&chain)?;
     let _short = drawn(&chain, plan)?;
     Ok(())
 }
@@ -144,7 +149,7 @@ pub fn planned_for_run(chain: Chain, plan: &mut [u32; PLAN]) -> Result<(), Refus
     requires { Blank plan.old }
     ensures { RunPlans chain plan.new result }
 {
-    chain::check_chain(chain)?;
+    chain::check_chain(&chain)?;
     drawn(&chain, plan)?
 }
 
@@ -170,14 +175,14 @@ pub fn drawn(chain: &Chain, plan: &mut [u32; PLAN]) -> Result<Result<(), Refused
 
 // The analysis of a chain that 2, 4 and 5 have passed, or the first of 6 and 7 that refuses it.
 #[tactic(auto, using(crate::proofs::SizesLaws::analysis_refused, crate::proofs::Walking::walk_says))]
-pub fn sized(chain: Chain) -> Result<Analysis, Refused>
-    requires { Sound chain }
-    ensures { analysis_said result ≡ sized (first (size_checks chain)) chain }
+pub fn sized(chain: &Chain) -> Result<Analysis, Refused>
+    requires { Sound chain.now }
+    ensures { analysis_said result ≡ sized (first (size_checks chain.now)) chain.now }
 {
     let mut queues = [NO_SIZE; 16];
-    let mut walk = Walk::start(&chain);
+    let mut walk = Walk::start(chain);
     for i in 0..chain.n as usize {
-        queues[i] = walk.advance(&chain, i)?;
+        queues[i] = walk.advance(chain, i)?;
     }
     let busy = walk.load()?;
     Ok(Analysis {

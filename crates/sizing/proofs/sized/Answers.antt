@@ -6,12 +6,12 @@ use Rattle.sizing.proofs.Filling.{filled}
 use Rattle.sizing.proofs.sized.Goals as goal
 
 pub loop-i-init : goal.loop-i-init
-loop-i-init c = record { walked = c.start-walk.ensures; lines = slots_none (size_of c.args.chain) no_size 16 }
+loop-i-init c = record { walked = c.start-walk.ensures; lines = slots_none (size_of c.args.chain.now) no_size 16 }
 
 pub loop-i-preserved : goal.loop-i-preserved
 loop-i-preserved c = record {
   walked = c.in_ok-queues.ensures.walked;
-  lines = slots_more (size_of c.args.chain) no_size 16 _ _ _ (omega arith) c.loop-i.invariant.lines c.in_ok-queues.ensures.line;
+  lines = slots_more (size_of c.args.chain.now) no_size 16 _ _ _ (omega arith) c.loop-i.invariant.lines c.in_ok-queues.ensures.line;
 }
 
 pub returns : goal.returns
