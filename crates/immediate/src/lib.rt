@@ -5,6 +5,7 @@
 ghost use Rattle.std.specs.Prelude.{◌≡◌, ◌+◌, ◌*◌};
 ghost use Rattle.chain.specs.Sound.{Sound};
 ghost use Rattle.sizing.specs.Sizes.{start};
+ghost use Rattle.sizing.specs.Checks.{run_refusal};
 ghost use Rattle.events.specs.Counts.{fires};
 ghost use Rattle.chain.specs.Said.{said};
 ghost use Rattle.state.specs.State.{empty_run, fresh_run, run_said};
@@ -27,9 +28,7 @@ const MOST: u64 = 1000000;
 pub fn immediate(chain: Chain, k: u32) -> Result<Run, Refused>
     ensures { run_said empty_run result ≡ immediate_answer chain k }
 {
-    // The plan is drawn for its checks alone: an analysis would take more of the stack.
-    let mut plan = [0; sizing::PLAN];
-    sizing::planned_for_run(chain, &mut plan)?;
+    check_chain(&chain)?;
     check_length(&chain, k)?;
     Ok(driven(&chain, k))
 }
@@ -67,6 +66,17 @@ fn settle(flow: &mut [u32; LENGTH], q: usize)
 {
     while flow[THRESHOLD + q] <= flow[HELD + q] {
         fire(flow, q + 1);
+    }
+}
+
+// What refuses a chain that is to be run. A call of its own, so that the analysis has left the stack when the run begins.
+#[inline(never)]
+fn check_chain(chain: &Chain) -> Result<(), Refused>
+    ensures { said result ≡ run_refusal chain.now }
+{
+    match &sizing::checked_for_run(*chain) {
+        Ok(_) => Ok(()),
+        Err(refused) => Err(*refused),
     }
 }
 
