@@ -55,7 +55,8 @@ pub fn tallied(n: u32, losses: &Losses) -> Result<[u64; 16], Refused>
         return Err(REFUSED);
     }
     let mut lost: [u64; 16] = [0; 16];
-    for loss in &losses.entries[..losses.count as usize] {
+    for k in 0..losses.count as usize {
+        let loss = losses.entries[k];
         if n <= loss.queue {
             return Err(REFUSED);
         }

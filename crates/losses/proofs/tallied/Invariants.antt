@@ -2,5 +2,5 @@
 use Rattle.losses.proofs.Pass.{Passed}
 use Rattle.losses.proofs.tallied.Given as goal
 
-abbrev pub invariant-loop-loss : goal.invariant-loop-loss
-invariant-loop-loss l = Passed l.n l.losses l.loss-index l.lost
+abbrev pub invariant-loop-k : goal.invariant-loop-k
+invariant-loop-k l = Passed l.n l.losses l.k l.lost
