@@ -11,7 +11,6 @@ use Rattle.sizing.specs.Plan.{capacity_in, period_in}
 use Rattle.state.specs.declared.Run.{Run}
 use Rattle.flow.specs.Flow.{produce_in, consume_in}
 use Rattle.deadline.specs.Deadline.{earlier, deadline, index_check}
-use Rattle.deadline.proofs.DeadlineLaws.{earlier_some}
 use Rattle.dates.specs.Question.{never}
 use Rattle.dates.specs.Dues.{Step, Shown, Dues, FollowedGives, PassingGives}
 
@@ -93,16 +92,6 @@ module _ {l f : List ℕ} {i k : ℕ} (d : Dues l f i k) (w : k ≤ limit) where
 
       pub passing_place : limit < m → PassingGives l f i k (i - 1)
       passing_place p = record { place = λ {c} x. ap (λ (r : Refusal). r.place) (check_passing c (i - 1) m p ∙ check_down x) }
-
-      pub next_dues : Dues l f (i - 1) m
-      next_dues = record {
-        chain = d.chain;
-        run = d.run;
-        shown = d.shown;
-        sound = d.sound;
-        node = omega (arith, d.node);
-        index = rw (← index_is d.shown) (earlier_some (row_of d.chain (i - 1)) k);
-      }
 
       pub next_gives : {r : ℕ} → FollowedGives l f (i - 1) m r → FollowedGives l f i k r
       next_gives g = record {
